@@ -1,0 +1,4 @@
+pub mod Periodic
+pub mod Decided
+pub mod Examples
+pub mod Same

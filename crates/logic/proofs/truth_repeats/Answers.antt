@@ -1,0 +1,5 @@
+use Rattle.logic.proofs.Periodic.{turns}
+use Rattle.logic.proofs.truth_repeats.Needs as need
+
+pub returns : need.returns
+returns c = turns
