@@ -1,0 +1,5 @@
+pub mod Adding
+pub mod Entries
+pub mod Decode
+pub mod Forming
+pub mod Listed
