@@ -1,0 +1,5 @@
+pub mod Describing
+pub mod Exact
+pub mod Entries
+pub mod Histories
+pub mod Assuming

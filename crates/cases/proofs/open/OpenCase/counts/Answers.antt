@@ -1,0 +1,7 @@
+use borrow.Author.Needs.{needs}
+use Rattle.cases.specs.Model.{opened}
+use Rattle.cases.proofs.open.OpenCase.counts.Needs as need
+
+pub returns : need.returns
+unfolding opened
+returns c = cc

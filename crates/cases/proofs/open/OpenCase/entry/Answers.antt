@@ -1,0 +1,6 @@
+use Rattle.cases.specs.Model.{opened}
+use Rattle.cases.proofs.open.OpenCase.entry.Needs as need
+
+pub returns : need.returns
+unfolding opened
+returns c = c .get .ensures

@@ -1,0 +1,7 @@
+use borrow.Author.Needs.{needs}
+use Rattle.cases.specs.Model.{sealed}
+use Rattle.cases.proofs.sealed.SealedCase.counts.Needs as need
+
+pub returns : need.returns
+unfolding sealed
+returns c = cc

@@ -1,0 +1,9 @@
+use mathlib.Core.Path.{ap, _∙_}
+use Rattle.std.specs.Finite.{nth}
+use Rattle.formulas.proofs.Places.{item-nth}
+use Rattle.cases.proofs.theory.Theory.assumption.Needs as need
+
+pub returns : need.returns
+returns c =
+    c .copied .ensures ∙ item-nth _ (c .args .number) (c .get .result) (c .get .ensures .finds)
+    ∙ ap (λ ks. nth ks (c .args .number)) (c .deref .ensures .value)
