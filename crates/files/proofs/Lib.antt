@@ -1,0 +1,5 @@
+pub mod Cutting
+pub mod Placing
+pub mod Steps
+pub mod ReadBack
+pub mod CallsMade
