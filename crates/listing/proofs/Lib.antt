@@ -1,0 +1,3 @@
+mod Copied
+mod Room
+mod Spelling
