@@ -1,53 +1,87 @@
--- What assume comes to, once it is known where the formula stands.
-use mathlib.Core.Path.{_≡_, ap, _∙_}
+-- What one call of assume brings and keeps.
+use mathlib.Core.Path.{_≡_, refl, sym, ap, subst}
 use mathlib.Core.List.{[], _∷_, _++_}
-use Prim.Native.Nat.{ℕ, _<_, _≤_}
-use lib.Dec
-use lib.Dec.{eqb}
+use mathlib.Core.Logic.{_⊎_, inl, inr}
+use Prim.Native.Nat.{ℕ, _<_}
+use native.Mathlib.Omega.{arith}
 use lib.ListN.{length}
-use Rattle.std.specs.declared.option.Option.{Option}
-use Rattle.std.specs.declared.option.Option.the-variants.{Some, None}
+use Rattle.std.specs.Finite.{nth}
+use Rattle.std.specs.declared.option.Option.the-variants.{Some}
+use Rattle.std.specs.declared.result.Result.{Result}
 use Rattle.std.specs.declared.result.Result.the-variants.{Ok, Err}
-use Rattle.std.proofs.shelf.Tests.{cond-true, cond-false, lt-ltb, le-ltb}
-use Rattle.refusals.specs.declared.Refusal.the-variants.{NotEntered, AssumptionsFull}
-use Rattle.formulas.specs.Adding.{place, add-answer, add-after}
+use Rattle.std.proofs.shelf.Lists.{length-push}
+use Rattle.refusals.specs.declared.Refusal.{Refusal}
+use Rattle.refusals.proofs.Answers.{ok-not-err, ok-same}
+use Rattle.formulas.proofs.Members.{nth-push, nth-pushed, nth-stays, every-push, distinct-push}
 use Rattle.cases.specs.Case.{Case}
-use Rattle.cases.specs.Calls.{Outcome, says, with-assumptions, assume}
+use Rattle.cases.specs.Calls.{Outcome, says, with-assumptions}
+use Rattle.cases.specs.Outcomes.{Absent, Assuming, not-entered, assumption-there, assumptions-full, newly-assumed}
+use Rattle.cases.specs.Limits.{Limits}
 
 module _ (c : Case) (f : ℕ) where
-  adding : Option ℕ → Outcome ℕ
-  adding o = record { answer = add-answer 16 AssumptionsFull (c .assumptions) o; after = with-assumptions c (add-after 16 (c .assumptions) f o) }
+  -- the case stays as it is, or has one more assumption
+  data Changed : Outcome ℕ → Type 0 where
+    stays : (a : Result ℕ Refusal) → Changed (says c a)
+    one-more : f < length (c .formulas) → Absent (c .assumptions) f → length (c .assumptions) < 16
+        → Changed (record { answer = Ok (length (c .assumptions)); after = with-assumptions c (c .assumptions ++ f ∷ []) })
 
-  pub assume-unknown : length (c .formulas) ≤ f → assume c f ≡ says c (Err NotEntered)
-  unfolding assume
-  assume-unknown past = cond-false (Dec.ltb f (length (c .formulas))) _ _ (le-ltb f (length (c .formulas)) past)
+  changed : {o : Outcome ℕ} → Assuming c f o → Changed o
+  changed (not-entered past) = stays _
+  changed (assumption-there f-in k there) = stays _
+  changed (assumptions-full f-in none full) = stays _
+  changed (newly-assumed f-in none room) = one-more f-in none room
 
-  module _ (f-in : f < length (c .formulas)) where
-    assume-at : (o : Option ℕ) → place eqb (c .assumptions) f ≡ o → assume c f ≡ adding o
-    unfolding assume adding
-    assume-at o found = cond-true (Dec.ltb f (length (c .formulas))) _ _ (lt-ltb f (length (c .formulas)) f-in) ∙ ap adding found
+  pub assume-refused : {o : Outcome ℕ} → Assuming c f o → (e : Refusal) → o .answer ≡ Err e → o .after ≡ c
+  assume-refused a e is = unchanged (changed a) is
+    where
+      unchanged : {o : Outcome ℕ} → Changed o → o .answer ≡ Err e → o .after ≡ c
+      unchanged (stays r) is = refl
+      unchanged (one-more f-in none room) is = absurd (ok-not-err is)
 
-    pub assume-old : (k : ℕ) → place eqb (c .assumptions) f ≡ Some k → assume c f ≡ says c (Ok k)
-    unfolding adding
-    assume-old k found = assume-at (Some k) found
+  pub assume-forms-nothing : {o : Outcome ℕ} → Assuming c f o → o .after .formulas ≡ c .formulas
+  assume-forms-nothing a = same-formulas (changed a)
+    where
+      same-formulas : {o : Outcome ℕ} → Changed o → o .after .formulas ≡ c .formulas
+      same-formulas (stays r) = refl
+      same-formulas (one-more f-in none room) = refl
 
-    pub assume-full : place eqb (c .assumptions) f ≡ None → 16 ≤ length (c .assumptions) → assume c f ≡ says c (Err AssumptionsFull)
-    unfolding adding
-    assume-full found full =
-        let b = le-ltb (length (c .assumptions)) 16 full in
-        assume-at None found
-        ∙ (λ i. record {
-          answer = cond-false (Dec.ltb (length (c .assumptions)) 16) (Ok (length (c .assumptions))) (Err AssumptionsFull) b i;
-          after = with-assumptions c (cond-false (Dec.ltb (length (c .assumptions)) 16) (c .assumptions ++ f ∷ []) (c .assumptions) b i);
-        })
+  -- an assumption that is there afterwards was there, or is the one that assume answered for
+  pub assume-brings : {o : Outcome ℕ} → Assuming c f o → (k g : ℕ) → nth (o .after .assumptions) k ≡ Some g → (nth (c .assumptions) k ≡ Some g) ⊎ ((o .answer ≡ Ok k) × (f ≡ g))
+  assume-brings a k g = brings (changed a)
+    where
+      brings : {o : Outcome ℕ} → Changed o → nth (o .after .assumptions) k ≡ Some g → (nth (c .assumptions) k ≡ Some g) ⊎ ((o .answer ≡ Ok k) × (f ≡ g))
+      brings (stays r) is = inl is
+      brings (one-more f-in none room) is = elim (nth-pushed (c .assumptions) f k g is) [
+        | inl old ↦ inl old
+        | inr at ↦ inr (ap Ok (at .0), at .1)
+      ]
 
-    pub assume-new : place eqb (c .assumptions) f ≡ None → length (c .assumptions) < 16
-        → assume c f ≡ record { answer = Ok (length (c .assumptions)); after = with-assumptions c (c .assumptions ++ f ∷ []) }
-    unfolding adding
-    assume-new found room =
-        let b = lt-ltb (length (c .assumptions)) 16 room in
-        assume-at None found
-        ∙ (λ i. record {
-          answer = cond-true (Dec.ltb (length (c .assumptions)) 16) (Ok (length (c .assumptions))) (Err AssumptionsFull) b i;
-          after = with-assumptions c (cond-true (Dec.ltb (length (c .assumptions)) 16) (c .assumptions ++ f ∷ []) (c .assumptions) b i);
-        })
+  pub assume-keeps : {o : Outcome ℕ} → Assuming c f o → (k g : ℕ) → nth (c .assumptions) k ≡ Some g → nth (o .after .assumptions) k ≡ Some g
+  assume-keeps a k g is = keeps (changed a)
+    where
+      keeps : {o : Outcome ℕ} → Changed o → nth (o .after .assumptions) k ≡ Some g
+      keeps (stays r) = is
+      keeps (one-more f-in none room) = nth-stays (c .assumptions) f k g is
+
+  -- the place that assume answers is that of the formula that it was asked for
+  pub assume-gives : {o : Outcome ℕ} → Assuming c f o → (k : ℕ) → o .answer ≡ Ok k → nth (o .after .assumptions) k ≡ Some f
+  assume-gives (not-entered past) k is = absurd (ok-not-err (sym is))
+  assume-gives (assumption-there f-in m there) k is = subst (λ (j : ℕ). nth (c .assumptions) j ≡ Some f) (ok-same is) there
+  assume-gives (assumptions-full f-in none full) k is = absurd (ok-not-err (sym is))
+  assume-gives (newly-assumed f-in none room) k is = subst (λ (j : ℕ). nth (c .assumptions ++ f ∷ []) j ≡ Some f) (ok-same is) (nth-push (c .assumptions) f)
+
+  pub assume-limits : {o : Outcome ℕ} → Assuming c f o → Limits c → Limits (o .after)
+  assume-limits a l = within (changed a)
+    where
+      within : {o : Outcome ℕ} → Changed o → Limits (o .after)
+      within (stays r) = l
+      within (one-more f-in none room) = record {
+        formulas-distinct = l .formulas-distinct;
+        formulas-few = l .formulas-few;
+        formulas-closed = l .formulas-closed;
+        assumptions-distinct = distinct-push (c .assumptions) f (l .assumptions-distinct) none;
+        assumptions-few = omega (arith, length-push (c .assumptions) f);
+        assumptions-entered = every-push (λ g. g < length (c .formulas)) (c .assumptions) f (l .assumptions-entered) f-in;
+        no-lines = l .no-lines;
+        no-refutations = l .no-refutations;
+      }

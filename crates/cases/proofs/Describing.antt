@@ -16,13 +16,14 @@ use Rattle.std.proofs.shelf.Maps.{nth-getD}
 use Rattle.std.proofs.shelf.Tests.{and-parts, and-from, cond-both, cond-true, eqb-true, eqb-false, ltb-true, lt-ltb, leb-true, le-leb}
 use Rattle.refusals.specs.declared.Refusal.{Refusal}
 use Rattle.refusals.specs.declared.Refusal.the-variants.{UnknownKind, BadField}
+use Rattle.refusals.proofs.Answers.{ok-same}
 use Rattle.logic.specs.Formula.{Formula, falsum, atom, implies, next, always}
 use Rattle.formulas.specs.declared.entry.Entry.{Entry}
 use Rattle.formulas.specs.declared.entry.Entry.the-variants.{False, Atom, Implies, Next, Always}
 use Rattle.formulas.specs.Entries.{placed, when-placed, asked}
 use Rattle.formulas.specs.Decode.{of-entry}
 use Rattle.formulas.specs.Forming.{numbered}
-use Rattle.formulas.proofs.Places.{some-same, nth-within, nth-append-left}
+use Rattle.formulas.proofs.Members.{some-same, nth-within, nth-append-left}
 use Rattle.cases.specs.Describes.{Number, Describes, false-kind, atom-kind, implies-kind, next-kind, always-kind}
 
 module _ (fs : List Formula) (kind left right : ℕ) where
@@ -119,9 +120,6 @@ describes-one fs kind left right A B d e =
     let q = describes-asked fs e in
     let same-entry : p .0 ≡ q .0 = ok-same (sym (p .1) ∙ q .1) in
     sym (p .2) ∙ ap (of-entry (numbered fs)) same-entry ∙ q .2
-  where
-    ok-same : {x y : Entry} → _≡_ {A = Result Entry Refusal} (Ok x) (Ok y) → x ≡ y
-    ok-same e = cc
 
 -- more formulas leave what is described
 pub describes-more : (fs gs : List Formula) {kind left right : ℕ} {A : Formula} → Describes fs kind left right A → Describes (fs ++ gs) kind left right A

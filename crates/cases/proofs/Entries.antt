@@ -21,7 +21,8 @@ use Rattle.formulas.specs.declared.entry.Entry.the-variants.{False, Atom, Impli
 use Rattle.formulas.specs.Adding.{Distinct, place}
 use Rattle.formulas.specs.Entries.{kind-of, left-of, right-of, alike, placed, Lower}
 use Rattle.formulas.specs.Decode.{of-entry, formula-at, decoded}
-use Rattle.formulas.proofs.Places.{some-same, some-not-none, place-only}
+use Rattle.formulas.proofs.Members.{some-same, some-not-none}
+use Rattle.formulas.proofs.Places.{place-only}
 use Rattle.formulas.proofs.Likeness.{same-tells, alike-tells}
 use Rattle.formulas.proofs.Decoded.{formula-at-is, decoded-nth, decoded-length}
 use Rattle.formulas.proofs.Forming.{decoded-distinct}

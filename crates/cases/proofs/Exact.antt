@@ -15,6 +15,7 @@ use Rattle.std.specs.declared.result.Result.the-variants.{Ok, Err}
 use Rattle.std.proofs.shelf.Tests.{cond-both, ltb-true, ltb-false}
 use Rattle.refusals.specs.declared.Refusal.{Refusal}
 use Rattle.refusals.specs.declared.Refusal.the-variants.{FormulasFull, AssumptionsFull, NotEntered}
+use Rattle.refusals.proofs.Answers.{ok-not-err}
 use Rattle.logic.specs.Formula.{Formula}
 use Rattle.logic.specs.Same.{same}
 use Rattle.formulas.specs.declared.entry.Entry.{Entry}
@@ -52,11 +53,8 @@ module _ (c : Case) (kind left right : ℕ) where
     | inr field ↦ subst (λ (y : Refusal). Forming c kind left right (says c (Err y))) (sym (field .0))
         (bad-field (field .1) (λ A d.
         let p = describes-asked (c .formulas) d in
-        never (sym is ∙ p .1)))
+        ok-not-err (sym (p .1) ∙ is)))
   ]
-    where
-      never : {y : Refusal} {e : Entry} → _≡_ {A = Result Entry Refusal} (Err y) (Ok e) → ⊥
-      never e = let z : _≡_ {A = ℕ} 0 1 = cc in omega arith
 
   by-asked : (r : Result Entry Refusal) → asked (length (c .formulas)) kind left right ≡ r
       → Forming c kind left right (record { answer = answer-for (c .formulas) r; after = with-formulas c (after-for (c .formulas) r) })

@@ -47,7 +47,7 @@ from-front-ends : (bytes : List ℕ) (r : Result ℕ Fault) (c : Case) → Ends 
 from-front-ends bytes (Ok behind) c e = body-ends c behind bytes (sealed-ends c e)
 from-front-ends bytes (Err f) c e = sealed-ends c e
 
-listed-after-history : Listed-after-history
+pub listed-after-history : Listed-after-history
 unfolding checked
 listed-after-history h bytes =
     cond-both (leb (length bytes) 16384) _ (record { case = after h; ending = TooLong }) (λ (x : Checked). Ends sealed-stage (x .case))

@@ -3,7 +3,7 @@ ghost use mathlib.Core.Path.{_≡_};
 ghost use Rattle.cases.specs.Model.{opened, sealed};
 ghost use lib.ListN.{length};
 ghost use Rattle.checker.specs.Checked.{checked, ended, file-listing};
-ghost use Rattle.checker.specs.Promises.{Promises};
+ghost use Rattle.checker.specs.Promises.{Listings-fit, Promises};
 ghost use Rattle.files.specs.Reading.{body};
 ghost use Rattle.listing.specs.Written.{written-answer, written-after};
 use cases::OpenCase;
@@ -11,6 +11,7 @@ use cases::SealedCase;
 use files::read_body;
 use files::read_front;
 use listing::Ending;
+use listing::LISTING_MOST;
 use listing::ListingRefusal;
 use listing::write_listing;
 
@@ -22,6 +23,7 @@ pub fn list_file(case: OpenCase, file: &[u8], buffer: &mut [u8]) -> Result<usize
     ensures answer { λ r. ⌜ r ≡ written-answer (file-listing (opened case) (now (file .entry))) (now (buffer .entry)) ⌝ }
     ensures after { λ _. ⌜ now (buffer .exit) ≡ written-after (file-listing (opened case) (now (file .entry))) (now (buffer .entry)) ⌝ }
     ensures promised { λ _. ⌜ Promises ⌝ }
+    ensures fits { λ _. do ⌜ Listings-fit (← ⟦LISTING_MOST⟧ .entry) ⌝ }
 {
     let (case, ending) = read_file(case, file);
     write_listing(&case, ending, buffer)

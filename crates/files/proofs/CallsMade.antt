@@ -2,13 +2,13 @@
 use Prim.Native.Nat.{ℕ, _+_}
 use mathlib.Core.Path.{_≡_, refl, sym, _∙_, subst}
 use mathlib.Core.List.{List, _∷_}
-use native.Mathlib.Omega.{arith}
 use lib.Dec.{ltb}
 use lib.ListN.{length, drop}
 use Rattle.std.specs.declared.result.Result.{Result}
 use Rattle.std.specs.declared.result.Result.the-variants.{Ok, Err}
 use Rattle.std.proofs.shelf.Tests.{cond-false, le-ltb}
 use Rattle.refusals.specs.declared.Refusal.{Refusal}
+use Rattle.refusals.proofs.Answers.{ok-not-err}
 use Rattle.cases.specs.Case as cases
 use Rattle.cases.specs.Calls as calls
 use Rattle.cases.specs.History.{Stage, open-stage, sealed-stage, Call, form, assume, after-call, Leads, no-more, refused-call, answered-call}
@@ -20,9 +20,6 @@ use Rattle.files.specs.Records.{Records, none, bad, more, records}
 use Rattle.files.specs.Payloads.{front-record, body-record}
 use Rattle.files.specs.Reading.{Reading, called, front-step, front-from, front, body-step, body-from, body}
 use Rattle.files.specs.CallsMade.{front-call, front-calls, body-call, body-calls, Front-makes-calls, Body-makes-calls}
-
-ok-not-err : {n : ℕ} {e : Refusal} → _≡_ {A = Result ℕ Refusal} (Ok n) (Err e) → ⊥
-ok-not-err is = let z : _≡_ {A = ℕ} 0 1 = cc in omega arith
 
 -- what a form record's call answered decides whether the calls behind it are made
 module _ {A : Type 0} (c : cases.Case) (at : ℕ) (go : cases.Case → Reading A) where

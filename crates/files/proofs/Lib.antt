@@ -3,3 +3,4 @@ pub mod Placing
 pub mod Steps
 pub mod ReadBack
 pub mod CallsMade
+pub mod Extents

@@ -25,7 +25,8 @@ use Rattle.formulas.specs.Adding.{Distinct, place, add-answer, add-after}
 use Rattle.formulas.specs.Entries.{alike, placed, asked, Lower}
 use Rattle.formulas.specs.Decode.{of-entry, formula-at, decoded}
 use Rattle.formulas.specs.Forming.{numbered, answer-for, after-for, form-answer, form-after}
-use Rattle.formulas.proofs.Places.{some-same, nth-within, place-is, place-only, place-none, none-there, distinct-push}
+use Rattle.formulas.proofs.Members.{some-same, nth-within, distinct-push}
+use Rattle.formulas.proofs.Places.{place-is, place-only, place-none, none-there}
 use Rattle.formulas.proofs.Likeness.{same-tells, alike-tells}
 use Rattle.formulas.proofs.Decoded.{of-entry-same, of-entry-injective, formula-at-is, formula-kept, formula-injective, decoded-length, decoded-at, decoded-nth}
 use Rattle.formulas.proofs.Asked.{asked-fine, lower-push}

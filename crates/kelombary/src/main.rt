@@ -11,7 +11,8 @@ fn main(rt: LibcRuntime) -> Result<(), AnyError> {
     rt.report(run(&rt))
 }
 
-// One byte more than a file may have is enough to know that the input is too long.
+// One byte more than a file may have is enough to know that the input is too long. A buffer of LISTING_MOST bytes has
+// room for every listing, so that the refusal below never comes.
 fn run(rt: &LibcRuntime) -> Result<(), AnyError> {
     let heap = rt.alloc();
     let mut input = Vec::new(heap);

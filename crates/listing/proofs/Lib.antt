@@ -1,3 +1,3 @@
-mod Copied
-mod Room
-mod Spelling
+pub mod Copied
+pub mod Room
+pub mod Spelling

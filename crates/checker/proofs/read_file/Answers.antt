@@ -1,3 +1,4 @@
+-- `read_file` meets its contract, by the file's length and by what its front answered.
 use mathlib.Core.Path.{ap, _∙_}
 use native.Mathlib.Omega.{arith}
 use Rattle.std.specs.declared.result.Result.the-variants.{Ok, Err}

@@ -1,3 +1,4 @@
+-- The theorem is `turns`.
 use Rattle.logic.proofs.Periodic.{turns}
 use Rattle.logic.proofs.truth_repeats.Needs as need
 

@@ -1,3 +1,4 @@
+-- `read_body` meets its contract: what is left of the file gives what is left of the answer.
 use Prim.Native.Nat.{_+_, _≤_}
 use mathlib.Core.Path.{_≡_, refl, sym, ap, _∙_}
 use native.Mathlib.Omega.{arith}

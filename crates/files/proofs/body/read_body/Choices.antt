@@ -1,3 +1,4 @@
+-- The body from the offset on gives what the whole body gives.
 use Prim.Native.Nat.{_-_}
 use mathlib.Core.Path.{_≡_}
 use lib.ListN.{length}

@@ -1,3 +1,4 @@
+-- The front from the offset on gives what the whole front gives.
 use Prim.Native.Nat.{_-_, _≤_}
 use mathlib.Core.Path.{_≡_}
 use lib.ListN.{length, drop}

@@ -1,3 +1,4 @@
+-- `first_record` meets its contract: the four bytes of the head are the first of the bytes.
 use borrow.Author.Needs.{needs}
 use native.Mathlib.Nat.{sub-zero}
 use Rattle.std.proofs.shelf.Lists.{take-rest}

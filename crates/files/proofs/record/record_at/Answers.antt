@@ -1,3 +1,4 @@
+-- `record_at` meets its contract: the record at an offset is the first of the bytes from there on.
 use Prim.Native.Nat.{_≤_}
 use mathlib.Core.Path.{_∙_, ap}
 use native.Mathlib.Omega.{arith}

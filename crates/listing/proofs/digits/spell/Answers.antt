@@ -1,3 +1,4 @@
+-- `spell` meets its contract: one digit after another is put before those that are there.
 use native.Mathlib.Omega.{arith}
 use Rattle.listing.proofs.Spelling.{begun, room, spelled-more, spelled-all}
 use Rattle.listing.proofs.digits.spell.Needs as need

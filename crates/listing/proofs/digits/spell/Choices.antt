@@ -1,3 +1,4 @@
+-- What is left of the number and the digits that are there make up the number.
 use Rattle.listing.proofs.Spelling.{Spelling}
 use Rattle.listing.proofs.digits.spell.Given as given
 

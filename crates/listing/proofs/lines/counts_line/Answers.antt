@@ -1,3 +1,4 @@
+-- `counts_line` adds the texts and numbers of the definition, in its order.
 use Rattle.listing.specs.Listing.{counts-line}
 use Rattle.listing.proofs.lines.counts_line.Needs as need
 

@@ -1,3 +1,4 @@
+-- `ending_line` adds the texts and numbers of the definition, in its order.
 use Rattle.listing.specs.Listing.{ending-line}
 use Rattle.listing.proofs.lines.ending_line.Needs as need
 use Rattle.listing.proofs.lines.ending_line.Needs.{in-Read, in-Refused, in-TooLong}

@@ -1,3 +1,4 @@
+-- `write_listing` meets its contract: two lines, one behind the other, are the listing.
 use mathlib.Core.Path.{_≡_, sym, ap, _∙_}
 use mathlib.Core.List.{List, _++_}
 use Prim.Native.Nat.{ℕ}

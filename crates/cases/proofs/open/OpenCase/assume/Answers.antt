@@ -1,3 +1,4 @@
+-- `OpenCase::assume` is `Theory::assume`.
 use Rattle.cases.specs.Model.{opened}
 use Rattle.cases.proofs.open.OpenCase.assume.Needs as need
 

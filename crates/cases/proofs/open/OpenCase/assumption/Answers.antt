@@ -1,3 +1,4 @@
+-- `OpenCase::assumption` is `Theory::assumption`.
 use Rattle.cases.specs.Model.{opened}
 use Rattle.cases.proofs.open.OpenCase.assumption.Needs as need
 

@@ -1,3 +1,4 @@
+-- `OpenCase::entry` is `Theory::get`.
 use Rattle.cases.specs.Model.{opened}
 use Rattle.cases.proofs.open.OpenCase.entry.Needs as need
 

@@ -1,3 +1,4 @@
+-- `OpenCase::form` is `Theory::form`.
 use Rattle.cases.specs.Model.{opened}
 use Rattle.cases.proofs.open.OpenCase.form.Needs as need
 

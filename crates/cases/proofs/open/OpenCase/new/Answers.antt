@@ -1,3 +1,4 @@
+-- The promises hold whatever `new` answers.
 use Rattle.std.proofs.shelf.Results.{made-from-err}
 use Rattle.cases.specs.Model.{opened}
 use Rattle.cases.proofs.Histories.{promises}

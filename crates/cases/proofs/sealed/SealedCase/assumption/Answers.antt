@@ -1,3 +1,4 @@
+-- `SealedCase::assumption` is `Theory::assumption`.
 use Rattle.cases.specs.Model.{sealed}
 use Rattle.cases.proofs.sealed.SealedCase.assumption.Needs as need
 

@@ -1,3 +1,4 @@
+-- `SealedCase::entry` is `Theory::get`.
 use Rattle.cases.specs.Model.{sealed}
 use Rattle.cases.proofs.sealed.SealedCase.entry.Needs as need
 

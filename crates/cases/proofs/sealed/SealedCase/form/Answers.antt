@@ -1,3 +1,4 @@
+-- `SealedCase::form` is `Theory::form`.
 use Rattle.cases.specs.Model.{sealed}
 use Rattle.cases.proofs.sealed.SealedCase.form.Needs as need
 

@@ -1,3 +1,4 @@
+-- `Theory::assume` meets its contract, by where the formula stands among the assumptions.
 use mathlib.Core.Path.{_≡_, sym, ap, subst, _∙_}
 use mathlib.Core.List.{List}
 use Prim.Native.Nat.{ℕ, _<_}
@@ -10,11 +11,12 @@ use Rattle.std.specs.declared.result.Result.the-variants.{Ok}
 use Rattle.std.specs.Finite.{nth}
 use Rattle.formulas.specs.Adding.{Distinct}
 use Rattle.formulas.specs.Listed.{formulas-of}
-use Rattle.formulas.proofs.Places.{none-there, distinct-push, every-push}
+use Rattle.formulas.proofs.Members.{distinct-push, every-push}
+use Rattle.formulas.proofs.Places.{none-there}
 use Rattle.formulas.proofs.Likeness.{eqb-tells}
 use Rattle.cases.specs.Calls.{Outcome, with-assumptions}
 use Rattle.cases.specs.Model.{grounded}
-use Rattle.cases.proofs.Assuming.{assume-unknown, assume-old, assume-full, assume-new}
+use Rattle.cases.proofs.Steps.{assume-unknown, assume-old, assume-full, assume-new}
 use Rattle.cases.proofs.theory.Theory.assume.Needs as need
 
 answer-of : {o p : Outcome ℕ} → o ≡ p → p .answer ≡ o .answer

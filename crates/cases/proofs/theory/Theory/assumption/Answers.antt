@@ -1,6 +1,7 @@
+-- What the vector lends is the member with that number.
 use mathlib.Core.Path.{ap, _∙_}
 use Rattle.std.specs.Finite.{nth}
-use Rattle.formulas.proofs.Places.{item-nth}
+use Rattle.formulas.proofs.Members.{item-nth}
 use Rattle.cases.proofs.theory.Theory.assumption.Needs as need
 
 pub returns : need.returns

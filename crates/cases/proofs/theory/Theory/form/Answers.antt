@@ -1,3 +1,4 @@
+-- Entering a formula leaves the assumptions entered, and is what `form` says of the model.
 use mathlib.Core.Path.{ap}
 use Prim.Native.Nat.{_<_}
 use native.Mathlib.Omega.{arith}

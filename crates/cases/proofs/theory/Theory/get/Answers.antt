@@ -1,3 +1,4 @@
+-- The entry in the list is the formula's, with its operands by their numbers.
 use mathlib.Core.Path.{_∙_}
 use Rattle.formulas.specs.Listed.{entries-of}
 use Rattle.cases.proofs.Entries.{entry-read}

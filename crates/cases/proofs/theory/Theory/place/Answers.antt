@@ -1,3 +1,4 @@
+-- `Theory::place` meets its contract: the first assumption that equals the one sought is at its place.
 use mathlib.Core.Path.{_≡_, sym, ap, _∙_}
 use mathlib.Core.List.{List}
 use Prim.Native.Nat.{ℕ, _<_}
@@ -8,7 +9,8 @@ use lib.ListN.{length, getD}
 use Rattle.std.specs.Of.Vec.{vec-items}
 use Rattle.std.specs.declared.option.Option.the-variants.{Some}
 use Rattle.std.proofs.shelf.Maps.{nth-getD}
-use Rattle.formulas.proofs.Places.{some-same, nth-within, place-first, place-none}
+use Rattle.formulas.proofs.Members.{some-same, nth-within}
+use Rattle.formulas.proofs.Places.{place-first, place-none}
 use Rattle.formulas.proofs.Likeness.{eqb-tells}
 use Rattle.cases.proofs.theory.Theory.place.Needs as need
 

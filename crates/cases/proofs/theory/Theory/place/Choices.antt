@@ -1,3 +1,4 @@
+-- No assumption that the loop of `Theory::place` has passed is the one that is sought.
 use Prim.Native.Nat.{ℕ, _<_}
 use mathlib.Core.Path.{_≡_}
 use lib.ListN.{getD}

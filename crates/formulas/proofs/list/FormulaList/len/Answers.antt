@@ -1,3 +1,4 @@
+-- There are as many formulas as entries.
 use mathlib.Core.Path.{sym, _∙_}
 use Rattle.formulas.proofs.Decoded.{decoded-length}
 use Rattle.formulas.proofs.list.FormulaList.len.Needs as need

@@ -1,3 +1,4 @@
+-- No entries stand for no formulas.
 use mathlib.Core.Path.{ap, refl, _∙_}
 use Rattle.formulas.specs.Decode.{decoded}
 use Rattle.formulas.proofs.list.FormulaList.new.Needs as need

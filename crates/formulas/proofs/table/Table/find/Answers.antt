@@ -1,3 +1,4 @@
+-- `Table::find` meets its contract: the first entry that equals the one sought is at its place.
 use mathlib.Core.Path.{_≡_, sym, ap, _∙_}
 use mathlib.Core.List.{List}
 use Prim.Native.Nat.{_<_}
@@ -10,7 +11,8 @@ use Rattle.std.proofs.shelf.Maps.{nth-getD}
 use Rattle.formulas.specs.declared.entry.Entry.{Entry}
 use Rattle.formulas.specs.declared.entry.Entry.the-variants.{False}
 use Rattle.formulas.specs.Entries.{alike}
-use Rattle.formulas.proofs.Places.{some-same, nth-within, place-first, place-none}
+use Rattle.formulas.proofs.Members.{some-same, nth-within}
+use Rattle.formulas.proofs.Places.{place-first, place-none}
 use Rattle.formulas.proofs.Likeness.{alike-tells}
 use Rattle.formulas.proofs.table.Table.find.Needs as need
 

@@ -1,3 +1,4 @@
+-- No entry that the loop of `Table::find` has passed is the one that is sought.
 use Prim.Native.Nat.{ℕ, _<_}
 use mathlib.Core.Path.{_≡_}
 use lib.ListN.{getD}

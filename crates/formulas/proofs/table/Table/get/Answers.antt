@@ -1,6 +1,7 @@
+-- `Table::get` meets its contract: what the vector lends is the member with that number.
 use mathlib.Core.Path.{ap, _∙_}
 use Rattle.std.specs.Finite.{nth}
-use Rattle.formulas.proofs.Places.{item-nth}
+use Rattle.formulas.proofs.Members.{item-nth}
 use Rattle.formulas.proofs.table.Table.get.Needs as need
 
 pub returns : need.returns

@@ -1,3 +1,4 @@
+-- `Line::add` meets its contract: the text is copied behind the bytes that are written.
 use borrow.Author.Needs.{needs}
 use Rattle.std.proofs.shelf.Parts.{overwrites}
 use Rattle.listing.proofs.line.Line.add.Needs as need

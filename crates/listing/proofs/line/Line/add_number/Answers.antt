@@ -1,3 +1,4 @@
+-- `Line::add_number` meets its contract: the digits from their start on are the number's.
 use borrow.Author.Needs.{needs}
 use Prim.Native.Nat.{_-_, _≤_}
 use native.Mathlib.Omega.{arith}

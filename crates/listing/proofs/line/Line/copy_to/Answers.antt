@@ -1,3 +1,4 @@
+-- `Line::copy_to` meets its contract: the part of the buffer that is written holds the text.
 use borrow.Author.Needs.{needs}
 use Rattle.listing.specs.Lines.{text-of}
 use Rattle.listing.proofs.Copied.{copied}
