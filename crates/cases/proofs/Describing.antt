@@ -1,15 +1,13 @@
 -- What is asked for by a kind and two fields is what they describe.
 use mathlib.Core.Path.{_≡_, refl, sym, ap, ap₂, _∙_, subst}
-use mathlib.Core.Bool.{Bool, true, false, cond, _&&_}
-use mathlib.Core.List.{List, [], _∷_, _++_}
+use mathlib.Core.Bool.{Bool, true, _&&_}
+use mathlib.Core.List.{List, _++_}
 use mathlib.Core.Logic.{_⊎_, inl, inr}
 use Prim.Native.Nat.{ℕ, _<_, _≤_}
 use native.Mathlib.Omega.{arith}
 use lib.Dec
 use lib.Dec.{eqb, leb}
 use lib.ListN.{length}
-use Rattle.std.specs.Finite.{nth}
-use Rattle.std.specs.declared.option.Option.the-variants.{Some}
 use Rattle.std.specs.declared.result.Result.{Result}
 use Rattle.std.specs.declared.result.Result.the-variants.{Ok, Err}
 use Rattle.std.proofs.shelf.Maps.{nth-getD}
@@ -17,7 +15,7 @@ use Rattle.std.proofs.shelf.Tests.{and-parts, and-from, cond-both, cond-true, e
 use Rattle.refusals.specs.declared.Refusal.{Refusal}
 use Rattle.refusals.specs.declared.Refusal.the-variants.{UnknownKind, BadField}
 use Rattle.refusals.proofs.Answers.{ok-same}
-use Rattle.logic.specs.Formula.{Formula, falsum, atom, implies, next, always}
+use Rattle.logic.specs.Formula.{Formula, falsum, implies, next, always}
 use Rattle.formulas.specs.declared.entry.Entry.{Entry}
 use Rattle.formulas.specs.declared.entry.Entry.the-variants.{False, Atom, Implies, Next, Always}
 use Rattle.formulas.specs.Entries.{placed, when-placed, asked}

@@ -2,7 +2,7 @@
 use mathlib.Core.Path.{_≡_, refl, sym, ap, ap₂, _∙_, subst}
 use mathlib.Core.Bool.{true, _&&_}
 use mathlib.Core.List.{List}
-use mathlib.Core.Logic.{inl, inr, _↔_}
+use mathlib.Core.Logic.{inl, inr}
 use Prim.Native.Nat.{ℕ, _<_, _≤_}
 use native.Mathlib.Omega.{arith}
 use lib.Dec
@@ -14,12 +14,12 @@ use Rattle.std.specs.declared.option.Option.{Option}
 use Rattle.std.specs.declared.option.Option.the-variants.{Some, None}
 use Rattle.std.proofs.shelf.Maps.{nth-getD, nth-past}
 use Rattle.std.proofs.shelf.Tests.{and-parts, and-from, ltb-true, eq-eqb, cases-lt}
-use Rattle.logic.specs.Formula.{Formula, falsum, atom, implies, next, always}
+use Rattle.logic.specs.Formula.{Formula}
 use Rattle.logic.specs.Same.{same}
 use Rattle.formulas.specs.declared.entry.Entry.{Entry}
 use Rattle.formulas.specs.declared.entry.Entry.the-variants.{False, Atom, Implies, Next, Always}
-use Rattle.formulas.specs.Adding.{Distinct, place}
-use Rattle.formulas.specs.Entries.{kind-of, left-of, right-of, alike, placed, Lower}
+use Rattle.formulas.specs.Adding.{Distinct}
+use Rattle.formulas.specs.Entries.{kind-of, left-of, right-of, placed, Lower}
 use Rattle.formulas.specs.Decode.{of-entry, formula-at, decoded}
 use Rattle.formulas.proofs.Members.{some-same, some-not-none}
 use Rattle.formulas.proofs.Places.{place-only}

@@ -10,7 +10,7 @@ use Rattle.logic.specs.Formula.{Formula}
 use Rattle.formulas.proofs.Members.{some-not-none, nth-within, nth-there}
 use Rattle.cases.specs.Case.{Case}
 use Rattle.cases.specs.Describes.{Number}
-use Rattle.cases.specs.History.{Stage, open-stage, sealed-stage, Call, form, assume, History, new, then, then-seal, after-call, after, Formed, formed-last, formed-earlier, formed-before-seal, Assumed, assumed-last, assumed-earlier, assumed-before-seal}
+use Rattle.cases.specs.History.{Stage, open-stage, Call, form, assume, History, new, then, then-seal, after-call, after, Formed, formed-last, formed-earlier, formed-before-seal, Assumed, assumed-last, assumed-earlier, assumed-before-seal}
 use Rattle.cases.specs.Promises.{Refusals-change-nothing, Formulas-formed, Assumptions-assumed, Counts-tell, Entries-tell, Limits-kept, Promises}
 use Rattle.cases.proofs.Exact.{form-exact, assume-exact}
 use Rattle.cases.proofs.Entries.{entry-describes, describes-entry}

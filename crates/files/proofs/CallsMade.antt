@@ -11,7 +11,7 @@ use Rattle.refusals.specs.declared.Refusal.{Refusal}
 use Rattle.refusals.proofs.Answers.{ok-not-err}
 use Rattle.cases.specs.Case as cases
 use Rattle.cases.specs.Calls as calls
-use Rattle.cases.specs.History.{Stage, open-stage, sealed-stage, Call, form, assume, after-call, Leads, no-more, refused-call, answered-call}
+use Rattle.cases.specs.History.{Stage, open-stage, sealed-stage, Call, form, assume, Leads, no-more, refused-call, answered-call}
 use Rattle.files.specs.declared.fault.PayloadFault.{PayloadFault}
 use Rattle.files.specs.declared.payload.Form.{Form}
 use Rattle.files.specs.declared.payload.FrontRecord.{FrontRecord}

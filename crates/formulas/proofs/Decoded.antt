@@ -1,20 +1,19 @@
 -- What entries stand for: how it is read, that more entries keep it, and that entries differ in it.
-use mathlib.Core.Path.{_≡_, refl, sym, ap, _∙_, subst}
-use mathlib.Core.Bool.{Bool, true, _&&_}
-use mathlib.Core.List.{List, [], _∷_, _++_}
-use mathlib.Core.Logic.{_⊎_, inl, inr}
-use Prim.Native.Nat.{ℕ, zero, suc, _+_, _<_, _≤_}
+use mathlib.Core.Path.{_≡_, refl, sym, ap, _∙_}
+use mathlib.Core.Bool.{true}
+use mathlib.Core.List.{List, _++_}
+use mathlib.Core.Logic.{inl, inr}
+use Prim.Native.Nat.{ℕ, zero, suc, _<_}
 use native.Mathlib.Omega.{arith}
 use lib.Dec.{ltb}
-use lib.ListN.{length, getD, length-append}
+use lib.ListN.{length, getD}
 use Rattle.std.specs.Finite.{nth}
-use Rattle.std.specs.Iters.{counting}
-use Rattle.std.specs.declared.option.Option.the-variants.{Some, None}
+use Rattle.std.specs.declared.option.Option.the-variants.{Some}
 use Rattle.std.proofs.shelf.Maps.{nth-getD}
-use Rattle.std.proofs.shelf.Counted.{length-map-counting, getD-map-counting, map-counting-more, fill-by-all}
+use Rattle.std.proofs.shelf.Counted.{length-map-counting, getD-map-counting}
 use Rattle.std.proofs.shelf.Tests.{and-parts, ltb-true, cases-order}
 use Rattle.std.proofs.shelf.Lists.{getD-append-left}
-use Rattle.logic.specs.Formula.{Formula, falsum, atom, implies, next, always}
+use Rattle.logic.specs.Formula.{Formula, falsum, implies, next, always}
 use Rattle.formulas.specs.declared.entry.Entry.{Entry}
 use Rattle.formulas.specs.declared.entry.Entry.the-variants.{False, Atom, Implies, Next, Always}
 use Rattle.formulas.specs.Adding.{Distinct}

@@ -1,4 +1,5 @@
 pub mod Periodic
 pub mod Decided
+pub mod Meanings
 pub mod Examples
 pub mod Same

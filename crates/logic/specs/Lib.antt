@@ -4,3 +4,4 @@ pub mod Run
 pub mod Truth
 pub mod Decide
 pub mod Same
+pub mod Meanings

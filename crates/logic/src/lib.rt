@@ -5,6 +5,7 @@ ghost use mathlib.Core.Logic.{_↔_};
 ghost use mathlib.Core.Path.{_≡_};
 ghost use Rattle.logic.specs.Decide.{truth};
 ghost use Rattle.logic.specs.Formula.{Formula};
+ghost use Rattle.logic.specs.Meanings.{Meanings};
 ghost use Rattle.logic.specs.Run.{Run};
 ghost use Rattle.logic.specs.Truth.{Holds};
 
@@ -16,4 +17,9 @@ pub fn truth_is_decided()
 // What holds repeats with the loop: behind the stem, any number of loops makes no difference.
 pub fn truth_repeats()
     ensures { λ _. ⌜ ((r : Run) (A : Formula) (k i : ℕ) → r .stem ≤ i → Holds r A (i + k * r .loop) ↔ Holds r A i) ⌝ }
+{}
+
+// The abbreviations ¬, ∨, ∧, ↔ and ◇ mean what their names say.
+pub fn abbreviations_mean()
+    ensures { λ _. ⌜ ((r : Run) (A B : Formula) (i : ℕ) → Meanings r A B i) ⌝ }
 {}

@@ -3,6 +3,12 @@
 mod tests {
     use cases::OpenCase;
     use checker::list_file;
+    use files::Cause;
+    use files::Fault;
+    use files::FaultDebug;
+    use files::FaultPartialEq;
+    use files::RecordFault;
+    use files::read_body;
     use formulas::Entry;
     use formulas::EntryDebug;
     use formulas::EntryPartialEq;
@@ -87,6 +93,24 @@ mod tests {
         check_eq(case.assume(7), Ok(7))?;
         check_eq(case.assume(16), Err(Refusal::AssumptionsFull))?;
         check_eq(case.counts().assumptions, 16)
+    }
+
+    // A body that starts at the end is empty; one that starts past it has no head there.
+    #[test]
+    fn bodies_start_within_the_file(rt: LibcRuntime) -> Result<(), Fail> {
+        let mut case = OpenCase::new(rt.alloc())?.seal();
+        check_eq(read_body(&mut case, b"abc", 3), Ok(()))?;
+        let short = Cause::Record(RecordFault::ShortHead);
+        let past = Fault {
+            cause: short,
+            offset: 4,
+        };
+        check_eq(read_body(&mut case, b"abc", 4), Err(past))?;
+        let at_zero = Fault {
+            cause: short,
+            offset: 0,
+        };
+        check_eq(read_body(&mut case, b"abc", 0), Err(at_zero))
     }
 
     // The listing of no input has 62 bytes; those behind it stay, and a shorter buffer stays whole.

@@ -1,5 +1,4 @@
 -- The counts are those of the formulas and assumptions; there are no lines and refutations.
-use borrow.Author.Needs.{needs}
 use Rattle.cases.specs.Model.{sealed}
 use Rattle.cases.proofs.sealed.SealedCase.counts.Needs as need
 

@@ -1,5 +1,5 @@
 -- No entries stand for no formulas.
-use mathlib.Core.Path.{ap, refl, _∙_}
+use mathlib.Core.Path.{ap}
 use Rattle.formulas.specs.Decode.{decoded}
 use Rattle.formulas.proofs.list.FormulaList.new.Needs as need
 
