@@ -1,6 +1,6 @@
 -- The listing of every file fits the program's buffer.
 use Prim.Native.Nat.{ℕ, _≤_}
-use mathlib.Core.Path.{sym, ap, subst}
+use mathlib.Core.Path.{sym, subst}
 use mathlib.Core.List.{List}
 use native.Mathlib.Omega.{arith}
 use lib.Dec.{leb}
@@ -8,7 +8,7 @@ use lib.ListN.{length}
 use Rattle.std.specs.declared.result.Result.{Result}
 use Rattle.std.specs.declared.result.Result.the-variants.{Ok, Err}
 use Rattle.std.proofs.shelf.Tests.{cond-both, leb-true}
-use Rattle.cases.specs.Case.{Case, Line, Refutation}
+use Rattle.cases.specs.Case.{Case}
 use Rattle.cases.specs.History.{sealed-stage, after}
 use Rattle.cases.specs.Limits.{Limits}
 use Rattle.cases.proofs.Histories.{limits-kept}
@@ -16,19 +16,11 @@ use Rattle.files.specs.declared.fault.Fault.{Fault}
 use Rattle.files.specs.Reading.{front, body}
 use Rattle.files.proofs.Extents.{Front-within, Body-within, front-within, body-within}
 use Rattle.listing.specs.declared.ending.Ending.the-variants.{TooLong}
-use Rattle.listing.specs.Room.{Limited, Fits-64}
+use Rattle.listing.specs.Room.{Fits-64}
 use Rattle.listing.proofs.Room.{always-room}
 use Rattle.checker.specs.Checked.{Checked, ended, from-front, checked}
 use Rattle.checker.specs.Promises.{Listings-fit}
 use Rattle.checker.proofs.Listed.{listed-after-history}
-
-limited : (c : Case) → Limits c → Limited c
-limited c l = record {
-  formulas = l .formulas-few;
-  assumptions = l .assumptions-few;
-  lines = omega (arith, ap (λ (xs : List Line). length xs) (l .no-lines));
-  refutations = omega (arith, ap (λ (xs : List Refutation). length xs) (l .no-refutations));
-}
 
 -- a file's length and the offsets in it are small numbers
 ended-fits : (n : ℕ) → n ≤ 16384 → (r : Result (Unit {0}) Fault) → Body-within n r → Fits-64 (ended n r)
@@ -50,5 +42,5 @@ pub listings-fit : Listings-fit 256
 listings-fit h bytes =
     let later = listed-after-history h bytes in
     always-room (checked (after h) bytes .case) (checked (after h) bytes .ending)
-    (subst Limited (sym (later .1)) (limited (after (later .0)) (limits-kept sealed-stage (later .0))))
+    (subst Limits (sym (later .1)) (limits-kept sealed-stage (later .0)))
     (checked-fits (after h) bytes)

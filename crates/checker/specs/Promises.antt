@@ -8,7 +8,7 @@ use Rattle.files.specs.CallsMade.{Front-makes-calls, Body-makes-calls}
 use Rattle.files.specs.WrittenRecords.{Records-read-back}
 use Rattle.checker.specs.Checked.{checked, file-listing}
 
--- a file is read into the case of some history: whatever every history keeps, the case that is listed keeps
+-- the case that is listed is that of some history: whatever every history keeps, it keeps
 abbrev pub Listed-after-history : Type 0
 Listed-after-history = (h : History open-stage) (bytes : List ℕ) → (later : History sealed-stage) × (checked (after h) bytes .case ≡ after later)
 

@@ -1,5 +1,6 @@
 -- A listing of a case within its limits has at most 256 bytes.
 use Prim.Native.Nat.{_^_, _<_, _≤_}
+use mathlib.Core.Path.{_≡_, ap}
 use native.Mathlib.Omega.{arith}
 use lib.Dec.{lit<}
 use lib.ListN.{length, length-append}
@@ -56,6 +57,8 @@ ending-short TooLong fits = omega arith
 
 pub always-room : Always-room 256
 always-room c e within fits =
+    let lines : length (c .lines) ≡ 0 = ap length (within .no-lines) in
+    let refutations : length (c .refutations) ≡ 0 = ap length (within .no-refutations) in
     let first = counts-short (counts-of c) (omega arith) (omega arith) (omega arith) (omega arith) in
     let last = ending-short e fits in
     simp length-append (omega arith)

@@ -2,16 +2,10 @@
 use Prim.Native.Nat.{ℕ, _^_, _<_, _≤_}
 use lib.ListN.{length}
 use Rattle.cases.specs.Case.{Case}
+use Rattle.cases.specs.Limits.{Limits}
 use Rattle.listing.specs.declared.ending.Ending.{Ending}
 use Rattle.listing.specs.declared.ending.Ending.the-variants.{Read, Refused, TooLong}
 use Rattle.listing.specs.Listing.{listing}
-
--- how much a case holds at most
-pub record Limited (c : Case) : Type 0 where
-  pub formulas : length (c .formulas) ≤ 1024
-  pub assumptions : length (c .assumptions) ≤ 16
-  pub lines : length (c .lines) ≤ 512
-  pub refutations : length (c .refutations) ≤ 64
 
 -- the length or the offset that an ending tells is a number of 64 bits
 abbrev pub Fits-64 : Ending → Type 0
@@ -19,6 +13,6 @@ Fits-64 (Read n) = n < 2 ^ 64
 Fits-64 (Refused f) = f .offset < 2 ^ 64
 Fits-64 TooLong = Unit {0}
 
--- so many bytes have room for every listing
+-- so many bytes have room for every listing of a case that keeps to its limits
 abbrev pub Always-room : ℕ → Type 0
-Always-room most = (c : Case) (e : Ending) → Limited c → Fits-64 e → length (listing c e) ≤ most
+Always-room most = (c : Case) (e : Ending) → Limits c → Fits-64 e → length (listing c e) ≤ most
