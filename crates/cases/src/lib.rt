@@ -1,4 +1,6 @@
 // Cases: formulas and assumptions, first open and then sealed.
+#![tactic(auto)]
+
 mod counts;
 mod open;
 mod sealed;

@@ -1,4 +1,6 @@
 // From a file's bytes to its listing: the front, the seal, the body, the listing.
+#![tactic(auto)]
+
 ghost use Rattle.std.specs.Prelude.{◌≡◌, length};
 ghost use Rattle.cases.specs.Model.{opened, sealed};
 ghost use Rattle.checker.specs.Checked.{checked, ended, file_listing};

@@ -1,4 +1,5 @@
 // Lists the file on standard input cut at every length, and with each of its bytes changed.
+#![tactic(auto)]
 // The file `expected` beside src/ is a plain reading of the format that stdout was made by.
 use anyhow::anyhow;
 use cases::OpenCase;

@@ -1,4 +1,6 @@
 // Case files: records, and the calls that they make on a case.
+#![tactic(auto)]
+
 mod body;
 mod fault;
 mod front;

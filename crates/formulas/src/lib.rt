@@ -1,4 +1,6 @@
 // The formula list: entries that share their parts, no two alike, each behind its operands.
+#![tactic(auto)]
+
 mod entry;
 mod list;
 mod table;

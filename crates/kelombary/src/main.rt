@@ -1,4 +1,6 @@
 // Reads a case file from standard input and writes its listing to standard output.
+#![tactic(auto)]
+
 use anyhow::anyhow;
 use cases::OpenCase;
 use checker::{FILE_MOST, list_file};

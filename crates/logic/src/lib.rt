@@ -1,4 +1,6 @@
 // Linear temporal logic on looped runs: the definitions are in specs/, and the theorems about them stand on these functions.
+#![tactic(auto)]
+
 ghost use Rattle.std.specs.Prelude.{◌≡◌, ℕ, ◌+◌, ◌*◌, ◌≤◌, true, ◌↔◌};
 ghost use Rattle.logic.specs.Decide.{truth};
 ghost use Rattle.logic.specs.Formula.{Formula};

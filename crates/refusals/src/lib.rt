@@ -1,4 +1,6 @@
 // Why a call on a case is refused, and the number that a caller is told.
+#![tactic(auto)]
+
 ghost use Rattle.std.specs.Prelude.{◌≡◌};
 ghost use Rattle.refusals.specs.Numbers.{number_of};
 

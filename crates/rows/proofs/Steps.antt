@@ -1,6 +1,6 @@
 -- The rows of a formula's parts make the formula's row.
 use Rattle.std.proofs.Common.{◌≡◌, ℕ, ◌+◌, ◌-◌, ◌<◌, ◌≤◌, min, Bool, true, false, cond, not, ◌&&◌, ◌||◌, eqb, ltb, ◌⊎◌, List, sym, refl, ap, ◌∙◌, ap₂, ⊎_elim, arith}
-use Rattle.std.proofs.lemmas.Bool.{cases_lt, cases_eq, lt-ltb, le-ltb, eq-eqb, ne_eqb, ltb-true, and_parts, and_left, and_right, not_true, not_false}
+use Rattle.std.proofs.lemmas.Bool.{cases_lt, cases_eq, lt-ltb, le-ltb, eq-eqb, ne_eqb, ltb-true, and_parts, and_left, and_right, not-true, not-false}
 use Rattle.rows.specs.Row.{bit, row_of, all_from, after, Ends}
 use Rattle.rows.proofs.Rows.{said, row_of_same, all_from_true, all_from_false}
 
@@ -70,11 +70,11 @@ module _ (a full d : List ℕ) (s n e : ℕ) (stem : s ≤ n) (long : n ≤ 256)
   fails : (j : ℕ) → e ≡ j + 1 → (j < n) × (bit a j ≡ false)
   fails j q =
       let both = and_parts (ltb j n) (not (bit a j)) (sym (d_at j (omega (arith, ends.fits))) ∙ ends.last j q) in
-      (ltb-true j n both.0, not_true (bit a j) both.1)
+      (ltb-true j n both.0, not-true (bit a j) both.1)
 
   holds : (j : ℕ) → e ≤ j → j < n → bit a j ≡ true
   holds j l h =
-      not_false (bit a j) (ap (λ x. x && not (bit a j)) (sym (lt-ltb j n h)) ∙ sym (d_at j (omega arith)) ∙ ends.within j l)
+      not-false (bit a j) (ap (λ x. x && not (bit a j)) (sym (lt-ltb j n h)) ∙ sym (d_at j (omega arith)) ∙ ends.within j l)
 
   pub always_none : s < e → (i : ℕ) → (ltb i n && all_from (bit a) (min i s) (n - min i s)) ≡ false
   always_none h i =

@@ -1,4 +1,6 @@
 // Rows: the truth of one formula at the positions 0 to 255 of a run, in four words of 64 bits, lowest first.
+#![tactic(auto)]
+
 ghost use Rattle.std.specs.Prelude.{◌≡◌, ◌+◌, ◌-◌, min, not, ◌&&◌, ◌||◌, ◌==◌, nat_lt};
 ghost use Rattle.rows.specs.Row.{bit, row_of, all_from, after};
 

@@ -1,4 +1,6 @@
 // Run sources: where a looped run is read from, and what each of them tells of it.
+#![tactic(auto)]
+
 ghost use Rattle.std.specs.Prelude.{◌≡◌, ℕ, ◌↔◌, List, Ok};
 ghost use Rattle.runs.specs.Pulses.{pulse_check};
 ghost use Rattle.runs.specs.Rules.{PulseRules};

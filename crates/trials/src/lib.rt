@@ -1,4 +1,6 @@
 // Trials of the calls on a case, and of a listing's buffer: each is proved, then run.
+#![tactic(auto)]
+
 #[cfg(test)]
 mod tests {
     use cases::OpenCase;

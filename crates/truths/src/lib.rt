@@ -1,4 +1,6 @@
 // The rows of all formulas along a run, in words that a caller lends.
+#![tactic(auto)]
+
 ghost use Rattle.std.specs.Prelude.{◌≡◌, length};
 ghost use Rattle.formulas.specs.Listed.{formulas_of};
 ghost use Rattle.truths.specs.Along.{rows_fit, rows_after, row_says};

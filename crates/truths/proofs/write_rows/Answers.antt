@@ -16,17 +16,17 @@ use Rattle.rows.proofs.Shapes.{lasso_some}
 use Rattle.truths.specs.Along.{rows_fit, with_rows}
 use Rattle.truths.proofs.Entries.{with_rows_none, with_rows_more}
 use Rattle.truths.proofs.write_rows.Goals as goal
-use Rattle.truths.proofs.write_rows.Goals.{in-Some-get, in-default-get}
+use Rattle.truths.proofs.write_rows.Goals.{in-Some-get, in_default-get}
 
 -- a list has no more than 1,024 formulas
 most : (l : FormulaList) → length (formulas_of l) ≤ 1024
 most l = omega (arith, decoded_length (entries_of l), l.table.entries.ok.0, l.within)
 
-pub overflow-cast-count : goal.overflow-cast-count
-overflow-cast-count g c = omega (arith, most c.args.formulas.now)
+pub overflow_cast-count : goal.overflow_cast-count
+overflow_cast-count g c = omega (arith, most c.args.formulas.now)
 
-pub overflow-mul-count : goal.overflow-mul-count
-overflow-mul-count g c = omega (arith, most c.args.formulas.now)
+pub overflow_mul-count : goal.overflow_mul-count
+overflow_mul-count g c = omega (arith, most c.args.formulas.now)
 
 pub loop-number-init : goal.loop-number-init
 loop-number-init g c = with_rows_none (g.R.RunSource.meaning c.args.source.now) (formulas_of c.args.formulas.now) c.args.words.now
@@ -46,12 +46,12 @@ loop-number-preserved g c =
       | in-Some-get w ↦
           w.words-is ∙ w.store.ensures
           ∙ with_rows_more r
-          (fits r c.stem.result c.loop-length.result c.new.result c.in-Some.lasso c.stem.ensures c.loop-length.ensures c.new.ensures c.in-Some.is)
+          (fits r c.stem.result c.loop_length.result c.new.result c.in-Some.lasso c.stem.ensures c.loop_length.ensures c.new.ensures c.in-Some.is)
           (entries_of l) l.lower c.args.words.now c.loop-number.number w.in-Some-get.entry
-          (sym c.get.ensures ∙ w.in-Some-get.is) c.loop-number.words w.entry-row-row.result c.loop-number.invariant w.entry-row-row.ensures
-      | in-default-get w ↦
+          (sym c.get.ensures ∙ w.in-Some-get.is) c.loop-number.words w.entry_row-row.result c.loop-number.invariant w.entry_row-row.ensures
+      | in_default-get w ↦
           absurd (some_not_none (sym (slice_get-get_or (entries_of l) c.loop-number.number False (omega (arith, decoded_length (entries_of l))))
-          ∙ sym c.get.ensures ∙ w.in-default-get.is))
+          ∙ sym c.get.ensures ∙ w.in_default-get.is))
     ]
 
 pub returns : goal.returns
@@ -59,7 +59,7 @@ returns g c =
     let r = g.R.RunSource.meaning c.args.source.now in
     let fs = formulas_of c.args.formulas.now in
     let old = c.args.words.now in
-    let long = fits r c.stem.result c.loop-length.result c.new.result c.in-Some.lasso c.stem.ensures c.loop-length.ensures c.new.ensures c.in-Some.is in
+    let long = fits r c.stem.result c.loop_length.result c.new.result c.in-Some.lasso c.stem.ensures c.loop_length.ensures c.new.ensures c.in-Some.is in
     let room : rows_fit r fs (length old) ≡ true = and_from _ _ (le-leb (r.stem + r.loop) 256 long) (le-leb (4 * length fs) (length old) (omega arith)) in
     record {
       answer = sym room;

@@ -22,7 +22,7 @@ asked : (c : In-Some) (r : Result FrontRecord PayloadFault)
     ≡ (let behind = c.loop-record.offset + 4 + length c.in-Some.record.payload.now in
     front_step (opened c.loop-record.case) c.loop-record.offset behind r (λ d. front_from d behind (records (drop behind c.args.file.now))))
 asked c r is =
-    let found = ap (λ (x : Option Record). content {E = Fault} (Ok x)) (sym c.in-Some.is) ∙ c.in-ok-record.ensures.value in
+    let found = ap (λ (x : Option Record). content {E = Fault} (Ok x)) (sym c.in-Some.is) ∙ c.in_ok-record.ensures.value in
     let behind = c.loop-record.offset + 4 + length c.in-Some.record.payload.now in
     c.loop-record.invariant.1
     ∙ ap (front_from (opened c.loop-record.case) c.loop-record.offset) (found_at c.args.file.now c.loop-record.offset (content {E = Fault} (Ok (Some c.in-Some.record))) c.loop-record.invariant.0 found)
@@ -32,15 +32,15 @@ pub loop-record-init : goal.loop-record-init
 unfolding front
 loop-record-init c = (omega arith, refl)
 
-pub returns-in-err-record : goal.returns-in-err-record
-returns-in-err-record c =
-    let found = found_at c.args.file.now c.loop-record.offset _ c.loop-record.invariant.0 c.in-err-record.ensures.value in
-    let p = err_from_is_err_and c.from-residual.result c.from-residual.ensures.1 in
+pub returns-in_err-record : goal.returns-in_err-record
+returns-in_err-record c =
+    let found = found_at c.args.file.now c.loop-record.offset _ c.loop-record.invariant.0 c.in_err-record.ensures.value in
+    let p = err_from_is_err_and c.from_residual.result c.from_residual.ensures.1 in
     rw (p.1, p.2, found.1, c.loop-record.invariant.1, found.2) (record { answer = refl; after = refl })
 
 pub returns : goal.returns
 returns c =
-    let none = ap (λ (x : Option Record). content {E = Fault} (Ok x)) (sym c.in-default.is) ∙ c.in-ok-record.ensures.value in
+    let none = ap (λ (x : Option Record). content {E = Fault} (Ok x)) (sym c.in_default.is) ∙ c.in_ok-record.ensures.value in
     let found = found_at c.args.file.now c.loop-record.offset (Ok None) c.loop-record.invariant.0 none in
     rw (c.at-2.ensures, c.loop-record.invariant.1, found) (record { answer = refl; after = refl })
 
@@ -53,32 +53,32 @@ returns-in-SealRecord c =
     let request = ap Ok (sym c.in-SealRecord.is) ∙ c.in-Ok.ensures in
     rw (asked (goal.at.returns-in-SealRecord c).In-Some _ request) (record { answer = refl; after = refl })
 
-pub returns-in-err-make-form-call : goal.returns-in-err-make-form-call
-returns-in-err-make-form-call c =
+pub returns-in_err-make_form_call : goal.returns-in_err-make_form_call
+returns-in_err-make_form_call c =
     let request = ap Ok (sym c.in-FormRecord.is) ∙ c.in-Ok.ensures in
-    let called = c.in-err-make-form-call.ensures in
-    let e = asked (goal.at.returns-in-err-make-form-call c).In-Some _ request ∙ called_refused c.loop-record.offset _ _ _ _ called.answer in
-    let p = err_from_is_err_and c.from-residual-in-err-make-form-call.result c.from-residual-in-err-make-form-call.ensures.1 in
+    let called = c.in_err-make_form_call.ensures in
+    let e = asked (goal.at.returns-in_err-make_form_call c).In-Some _ request ∙ called_refused c.loop-record.offset _ _ _ _ called.answer in
+    let p = err_from_is_err_and c.from_residual-in_err-make_form_call.result c.from_residual-in_err-make_form_call.ensures.1 in
     rw (p.1, p.2, e) (record { answer = refl; after = called.after })
 
-pub returns-in-err-make-assume-call : goal.returns-in-err-make-assume-call
-returns-in-err-make-assume-call c =
+pub returns-in_err-make_assume_call : goal.returns-in_err-make_assume_call
+returns-in_err-make_assume_call c =
     let request = ap Ok (sym c.in-AssumeRecord.is) ∙ c.in-Ok.ensures in
-    let called = c.in-err-make-assume-call.ensures in
-    let e = asked (goal.at.returns-in-err-make-assume-call c).In-Some _ request ∙ called_refused c.loop-record.offset _ _ _ _ called.answer in
-    let p = err_from_is_err_and c.from-residual-in-err-make-assume-call.result c.from-residual-in-err-make-assume-call.ensures.1 in
+    let called = c.in_err-make_assume_call.ensures in
+    let e = asked (goal.at.returns-in_err-make_assume_call c).In-Some _ request ∙ called_refused c.loop-record.offset _ _ _ _ called.answer in
+    let p = err_from_is_err_and c.from_residual-in_err-make_assume_call.result c.from_residual-in_err-make_assume_call.ensures.1 in
     rw (p.1, p.2, e) (record { answer = refl; after = called.after })
 
-pub loop-record-preserved-in-ok-make-form-call : goal.loop-record-preserved-in-ok-make-form-call
-loop-record-preserved-in-ok-make-form-call c =
+pub loop-record-preserved-in_ok-make_form_call : goal.loop-record-preserved-in_ok-make_form_call
+loop-record-preserved-in_ok-make_form_call c =
     let request = ap Ok (sym c.in-FormRecord.is) ∙ c.in-Ok.ensures in
-    let called = c.in-ok-make-form-call.ensures in
-    let e = asked (goal.at.loop-record-preserved-in-ok-make-form-call c).In-Some _ request ∙ called_answered c.loop-record.offset _ _ _ _ called.answer in
+    let called = c.in_ok-make_form_call.ensures in
+    let e = asked (goal.at.loop-record-preserved-in_ok-make_form_call c).In-Some _ request ∙ called_answered c.loop-record.offset _ _ _ _ called.answer in
     (search rules, rw (called.after, e))
 
 pub loop-record-preserved : goal.loop-record-preserved
 loop-record-preserved c =
     let request = ap Ok (sym c.in-AssumeRecord.is) ∙ c.in-Ok.ensures in
-    let called = c.in-ok-make-assume-call.ensures in
+    let called = c.in_ok-make_assume_call.ensures in
     let e = asked (goal.at.loop-record-preserved c).In-Some _ request ∙ called_answered c.loop-record.offset _ _ _ _ called.answer in
     (search rules, rw (called.after, e))

@@ -7,9 +7,9 @@ unfolding line_of_counts
 returns c =
     simp (
       c.end.ensures,
-      c.add-field-4.ensures.text,
-      c.add-field-3.ensures.text,
-      c.add-field-2.ensures.text,
-      c.add-field.ensures.text,
+      c.add_field-4.ensures.text,
+      c.add_field-3.ensures.text,
+      c.add_field-2.ensures.text,
+      c.add_field.ensures.text,
       c.new-line.ensures.text,
     )

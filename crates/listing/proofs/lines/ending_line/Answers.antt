@@ -7,16 +7,16 @@ pub returns : goal.returns
 unfolding line_of_ending
 returns c =
     elim c.match-ending.branch [
-      | in-Read w ↦ simp (c.end.ensures, w.line-is, w.in-Read.is, w.add-field.ensures.text, c.new-line.ensures.text)
+      | in-Read w ↦ simp (c.end.ensures, w.line-is, w.in-Read.is, w.add_field.ensures.text, c.new-line.ensures.text)
       | in-Refused w ↦
           simp (
             c.end.ensures,
             w.line-is,
             w.in-Refused.is,
-            w.add-field-in-Refused-3.ensures.text,
-            w.add-field-in-Refused-2.ensures.text,
+            w.add_field-in-Refused-3.ensures.text,
+            w.add_field-in-Refused-2.ensures.text,
             w.number.ensures,
-            w.add-field-in-Refused.ensures.text,
+            w.add_field-in-Refused.ensures.text,
             w.layer.ensures,
             c.new-line.ensures.text,
           )

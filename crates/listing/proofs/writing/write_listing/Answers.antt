@@ -20,9 +20,9 @@ pub returns-then-len-buffer : goal.returns-then-len-buffer
 returns-then-len-buffer c =
     let case = sealed c.args.case.now in
     let ending = c.args.ending in
-    let first = text_of c.counts-line-first.result in
-    let last = text_of c.ending-line-last.result in
-    let same = whole case ending _ first last c.counts.ensures c.counts-line-first.ensures c.ending-line-last.ensures in
+    let first = text_of c.counts_line-first.result in
+    let last = text_of c.ending_line-last.result in
+    let same = whole case ending _ first last c.counts.ensures c.counts_line-first.ensures c.ending_line-last.ensures in
     let size = ap length (sym same) ∙ length-append first last in
     let written = nothing_written (listing case ending) c.args.buffer.now (omega arith) in
     record { answer = written.0; after = written.1; enough = always_room }
@@ -31,11 +31,11 @@ pub returns : goal.returns
 returns c =
     let case = sealed c.args.case.now in
     let ending = c.args.ending in
-    let first = text_of c.counts-line-first.result in
-    let last = text_of c.ending-line-last.result in
-    let same = whole case ending _ first last c.counts.ensures c.counts-line-first.ensures c.ending-line-last.ensures in
+    let first = text_of c.counts_line-first.result in
+    let last = text_of c.ending_line-last.result in
+    let same = whole case ending _ first last c.counts.ensures c.counts_line-first.ensures c.ending_line-last.ensures in
     let size = ap length (sym same) ∙ length-append first last in
-    let one = filled_more first (filled_none c.args.buffer.now) c.copy-to-at.ensures.after c.copy-to-at.ensures.end in
-    let both = filled_more last one c.copy-to-end.ensures.after c.copy-to-end.ensures.end in
+    let one = filled_more first (filled_none c.args.buffer.now) c.copy_to-at.ensures.after c.copy_to-at.ensures.end in
+    let both = filled_more last one c.copy_to-end.ensures.after c.copy_to-end.ensures.end in
     let written = filled_all (omega arith) (rw same at both) in
     record { answer = written.0; after = written.1; enough = always_room }

@@ -18,7 +18,7 @@ loop-position-init c =
 pub loop-position-preserved : goal.loop-position-preserved
 loop-position-preserved c =
     let p = row_says c.args.words.now (get_or c.args.formulas.now c.search.place 0) in
-    (c.loop-position.invariant.0, c.loop-position.invariant.1 ∙ false_later c.args.positions p c.loop-position.position c.loop-position-test.true (sym c.if-not-truth-at.ensures))
+    (c.loop-position.invariant.0, c.loop-position.invariant.1 ∙ false_later c.args.positions p c.loop-position.position c.loop-position-test.true (sym c.if-not-truth_at.ensures))
 
 pub search-preserved : goal.search-preserved
 search-preserved c =
@@ -33,11 +33,11 @@ returns-after-search c =
     c.search.invariant.0
     ∙ sym (c.search.invariant.1 ∙ failing_nowhere (row_says c.args.words.now) c.args.positions c.args.formulas.now c.search.place c.search-test.false)
 
-pub returns-then-not-truth-at : goal.returns-then-not-truth-at
-returns-then-not-truth-at c =
+pub returns-then-not-truth_at : goal.returns-then-not-truth_at
+returns-then-not-truth_at c =
     let t = row_says c.args.words.now in
     let p = t (get_or c.args.formulas.now c.search.place 0) in
-    let here : p c.loop-position.position ≡ false = sym c.if-not-truth-at.ensures in
+    let here : p c.loop-position.position ≡ false = sym c.if-not-truth_at.ensures in
     let found : first_false_from c.args.positions 0 p ≡ Some c.loop-position.position =
     c.loop-position.invariant.1 ∙ false_here c.args.positions p c.loop-position.position c.loop-position-test.true here in
     sym (c.search.invariant.1 ∙ failing_here t c.args.positions c.args.formulas.now c.search.place c.search-test.true c.loop-position.position found)

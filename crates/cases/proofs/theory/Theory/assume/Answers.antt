@@ -29,25 +29,30 @@ returns-in-Some c =
 
 pub returns-then-number-ge-MOST : goal.returns-then-number-ge-MOST
 returns-then-number-ge-MOST c =
-    let e = assume_full (grounded c.args.self.now) c.args.formula (omega arith) (sym c.place.ensures ∙ c.in-default.is) (omega (arith, c.args.self.now.assumptions.ok.0)) in
+    let e = assume_full (grounded c.args.self.now) c.args.formula (omega arith) (sym c.place.ensures ∙ c.in_default.is) (omega (arith, c.args.self.now.assumptions.ok.0)) in
     record { answer = answer_of e; after = after_of e }
 
-pub invariant-of-self : goal.invariant-of-self
-invariant-of-self c =
+pub invariant_of-self : goal.invariant_of-self
+invariant_of-self c =
     let s = c.args.self.now in
     let ks : List ℕ = vec_items s.assumptions in
     let f : ℕ = c.args.formula in
     let f_in : f < length (formulas_of s.formulas) = omega arith in
-    let items = c.push-reserved.ensures.items in
-    let distinct = distinct_push ks f s.distinct (none_there eqb eqb_tells ks f (sym c.place.ensures ∙ c.in-default.is)) in
+    let items = c.push_reserved.ensures.items in
+    let distinct = distinct_push ks f s.distinct (none_there eqb eqb_tells ks f (sym c.place.ensures ∙ c.in_default.is)) in
     let entered = every_push (λ g. g < length (formulas_of s.formulas)) ks f s.entered f_in in
-    (omega arith, (omega arith, (subst Distinct (sym items) distinct, (subst (λ (xs : List ℕ). (k g : ℕ) → slice_get xs k ≡ Some g → g < length (formulas_of s.formulas)) (sym items) entered, tt))))
+    record {
+      within = omega arith;
+      room = omega arith;
+      distinct = subst Distinct (sym items) distinct;
+      entered = subst (λ (xs : List ℕ). (k g : ℕ) → slice_get xs k ≡ Some g → g < length (formulas_of s.formulas)) (sym items) entered;
+    }
 
 pub returns : goal.returns
 returns c =
     let s = c.args.self.now in
-    let e = assume_new (grounded s) c.args.formula (omega arith) (sym c.place.ensures ∙ c.in-default.is) (omega (arith, s.assumptions.ok.0)) in
+    let e = assume_new (grounded s) c.args.formula (omega arith) (sym c.place.ensures ∙ c.in_default.is) (omega (arith, s.assumptions.ok.0)) in
     record {
       answer = ap Ok (c.len-number.ensures ∙ s.assumptions.ok.0) ∙ answer_of e;
-      after = ap (with_assumptions (grounded s)) c.push-reserved.ensures.items ∙ after_of e;
+      after = ap (with_assumptions (grounded s)) c.push_reserved.ensures.items ∙ after_of e;
     }

@@ -6,23 +6,17 @@ use Rattle.cases.specs.Calls.{form, with_formulas}
 use Rattle.cases.specs.Model.{grounded}
 use Rattle.cases.proofs.theory.Theory.form.Goals as goal
 
-pub invariant-of-self : goal.invariant-of-self
-invariant-of-self c =
-    let s = c.args.self.now in (
-      s.within,
-      (
-        s.room,
-        (
-          s.distinct,
-          (
-            (λ k f is.
-                let old : f < length (formulas_of s.formulas) = s.entered k f is in
-                omega (arith, form_longer (formulas_of s.formulas) c.args.kind c.args.left c.args.right, ap length c.form.ensures.after)),
-            tt,
-          ),
-        ),
-      ),
-    )
+pub invariant_of-self : goal.invariant_of-self
+invariant_of-self c =
+    let s = c.args.self.now in
+    record {
+      within = s.within;
+      room = s.room;
+      distinct = s.distinct;
+      entered = λ k f is.
+          let old : f < length (formulas_of s.formulas) = s.entered k f is in
+          omega (arith, form_longer (formulas_of s.formulas) c.args.kind c.args.left c.args.right, ap length c.form.ensures.after);
+    }
 
 pub returns : goal.returns
 unfolding form

@@ -7,5 +7,5 @@ use Rattle.listing.proofs.line.Line.copy_to.Goals as goal
 pub returns : goal.returns
 returns c =
     let text = text_of c.args.self.now in
-    let part = c.copy-from-slice.new.self in
+    let part = c.copy_from_slice.new.self in
     record { end = search rules; after = copied c.args.buffer.now text part c.args.at _ (search rules) (search rules) }

@@ -9,26 +9,26 @@ use Rattle.runs.proofs.Passing.{pulses_passed, looped_same, pulses_passed_run, p
 use Rattle.runs.proofs.pulses.PulseRun.new.Goals as goal
 use Rattle.runs.proofs.pulses.PulseRun.new.Goals.{in-Ok, in-Err}
 
-pub slice-bounds-entries-count : goal.slice-bounds-entries-count
-slice-bounds-entries-count c = omega (arith, (pulses_passed c.args.bytes.now c.in-Ok.ensures.0).long)
+pub slice_bounds-entries-count : goal.slice_bounds-entries-count
+slice_bounds-entries-count c = omega (arith, (pulses_passed c.args.bytes.now c.in-Ok.ensures.0).long)
 
-pub slice-bounds-entries-start : goal.slice-bounds-entries-start
-slice-bounds-entries-start c = omega (arith, (pulses_passed c.args.bytes.now c.in-Ok.ensures.0).long)
+pub slice_bounds-entries-start : goal.slice_bounds-entries-start
+slice_bounds-entries-start c = omega (arith, (pulses_passed c.args.bytes.now c.in-Ok.ensures.0).long)
 
-pub invariant-of-result : goal.invariant-of-result
-invariant-of-result c =
+pub invariant_of-result : goal.invariant_of-result
+invariant_of-result c =
     let bytes = c.args.bytes.now in
-    let made = c.match-loop-in.result in
-    elim c.match-loop-in.branch [
+    let made = c.match-loop_in.result in
+    elim c.match-loop_in.branch [
       | in-Ok w ↦
           let passed = pulses_passed bytes w.in-Ok.ensures.0 in
           let loop = ap (λ x. x.1.0) w.result-is ∙ w.in-Ok.ensures.1 in
           let turns : 0 < made.1.0 = omega arith in
           let entries = ap (λ x. x.1.1.0.now) w.result-is ∙ between_to_end bytes 2 (length bytes) (omega arith) in
-          (turns, (ap₂ (λ n xs. in_order n xs (length xs / 8)) loop entries ∙ passed.orderly, tt))
+          record { turns = turns; orderly = ap₂ (λ n xs. in_order n xs (length xs / 8)) loop entries ∙ passed.orderly }
       | in-Err w ↦
           let turns : 0 < made.1.0 = omega (arith, ap (λ x. x.1.0) w.result-is) in
-          (turns, (ap (λ x. in_order x.1.0 x.1.1.0.now (length x.1.1.0.now / 8)) w.result-is, tt))
+          record { turns = turns; orderly = ap (λ x. in_order x.1.0 x.1.1.0.now (length x.1.1.0.now / 8)) w.result-is }
     ]
 
 pub returns : goal.returns
@@ -36,11 +36,11 @@ unfolding pulse_meaning
 returns c =
     let bytes = c.args.bytes.now in
     record {
-      run = elim c.match-loop-in.branch [
+      run = elim c.match-loop_in.branch [
         | in-Ok w ↦
             let entries = between_to_end bytes 2 (length bytes) (omega arith) in
             ap (λ x. looped x.0 x.1.0 (pulsed x.1.1.0.now (length x.1.1.0.now / 8))) w.result-is
-            ∙ looped_same (λ xs. pulsed xs (length xs / 8)) (w.latest-first.ensures ∙ ap (λ xs. latest xs (length xs / 8)) entries) w.in-Ok.ensures.1 entries
+            ∙ looped_same (λ xs. pulsed xs (length xs / 8)) (w.latest_first.ensures ∙ ap (λ xs. latest xs (length xs / 8)) entries) w.in-Ok.ensures.1 entries
             ∙ sym (pulses_passed_run bytes w.in-Ok.ensures.0)
         | in-Err w ↦
             ap (λ x. looped x.0 x.1.0 (pulsed x.1.1.0.now (length x.1.1.0.now / 8))) w.result-is

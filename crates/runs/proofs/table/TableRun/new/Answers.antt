@@ -9,26 +9,26 @@ use Rattle.runs.proofs.Passing.{table_passed, looped_same, table_passed_run, tab
 use Rattle.runs.proofs.table.TableRun.new.Goals as goal
 use Rattle.runs.proofs.table.TableRun.new.Goals.{in-Ok, in-Err}
 
-pub slice-bounds-result-count : goal.slice-bounds-result-count
-slice-bounds-result-count c = omega (arith, (table_passed c.args.bytes.now c.in-Ok.ensures.0).long)
+pub slice_bounds-result-count : goal.slice_bounds-result-count
+slice_bounds-result-count c = omega (arith, (table_passed c.args.bytes.now c.in-Ok.ensures.0).long)
 
-pub slice-bounds-result-start : goal.slice-bounds-result-start
-slice-bounds-result-start c = omega (arith, (table_passed c.args.bytes.now c.in-Ok.ensures.0).long)
+pub slice_bounds-result-start : goal.slice_bounds-result-start
+slice_bounds-result-start c = omega (arith, (table_passed c.args.bytes.now c.in-Ok.ensures.0).long)
 
-pub invariant-of-result : goal.invariant-of-result
-invariant-of-result c =
+pub invariant_of-result : goal.invariant_of-result
+invariant_of-result c =
     let bytes = c.args.bytes.now in
-    let made = c.match-stem-and-loop.result in
-    elim c.match-stem-and-loop.branch [
+    let made = c.match-stem_and_loop.result in
+    elim c.match-stem_and_loop.branch [
       | in-Ok w ↦
           let passed = table_passed bytes w.in-Ok.ensures.0 in
           let turns : 0 < made.1.0 = omega (arith, ap (λ x. x.1.0) w.result-is, w.in-Ok.ensures.2) in
           let words = ap (λ x. length x.1.1.0.now) w.result-is ∙ ap length (between_to_end bytes 4 (length bytes) (omega arith)) ∙ length-drop 4 bytes in
           let whole : length made.1.1.0.now % 4 ≡ 0 = omega arith in
-          (turns, (whole, tt))
+          record { turns = turns; whole = whole }
       | in-Err w ↦
           let turns : 0 < made.1.0 = omega (arith, ap (λ x. x.1.0) w.result-is) in
-          (turns, (ap (λ x. length x.1.1.0.now % 4) w.result-is, tt))
+          record { turns = turns; whole = ap (λ x. length x.1.1.0.now % 4) w.result-is }
     ]
 
 pub returns : goal.returns
@@ -36,7 +36,7 @@ unfolding table_meaning
 returns c =
     let bytes = c.args.bytes.now in
     record {
-      run = elim c.match-stem-and-loop.branch [
+      run = elim c.match-stem_and_loop.branch [
         | in-Ok w ↦
             ap (λ x. looped x.0 x.1.0 (table_says x.1.1.0.now)) w.result-is
             ∙ looped_same table_says w.in-Ok.ensures.1 w.in-Ok.ensures.2 (between_to_end bytes 4 (length bytes) (omega arith))
