@@ -1,6 +1,7 @@
 // Lists the file on standard input cut at every length, and with each of its bytes changed.
-#![tactic(auto)]
 // The file `expected` beside src/ is a plain reading of the format that stdout was made by.
+#![tactic(auto)]
+
 use anyhow::anyhow;
 use cases::OpenCase;
 use checker::list_file;

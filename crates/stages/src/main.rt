@@ -1,6 +1,7 @@
 // The two stages of a case: it takes assumptions while it is open, and sealing it ends that.
-#![tactic(auto)]
 // Two edits of this program do not compile, as they must not: `sealed.assume(0)` and `open.assume(0)` behind the seal.
+#![tactic(auto)]
+
 use cases::OpenCase;
 
 fn main(rt: HostRuntime) -> anyhow::Result<()> {

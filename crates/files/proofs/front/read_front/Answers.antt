@@ -53,32 +53,32 @@ returns-in-SealRecord c =
     let request = ap Ok (sym c.in-SealRecord.is) ∙ c.in-Ok.ensures in
     rw (asked (goal.at.returns-in-SealRecord c).In-Some _ request) (record { answer = refl; after = refl })
 
-pub returns-in_err-make_form_call : goal.returns-in_err-make_form_call
-returns-in_err-make_form_call c =
+pub returns-in_err-make_form_call-in-FormRecord : goal.returns-in_err-make_form_call-in-FormRecord
+returns-in_err-make_form_call-in-FormRecord c =
     let request = ap Ok (sym c.in-FormRecord.is) ∙ c.in-Ok.ensures in
-    let called = c.in_err-make_form_call.ensures in
-    let e = asked (goal.at.returns-in_err-make_form_call c).In-Some _ request ∙ called_refused c.loop-record.offset _ _ _ _ called.answer in
-    let p = err_from_is_err_and c.from_residual-in_err-make_form_call.result c.from_residual-in_err-make_form_call.ensures.1 in
+    let called = c.in_err-make_form_call-in-FormRecord.ensures in
+    let e = asked (goal.at.returns-in_err-make_form_call-in-FormRecord c).In-Some _ request ∙ called_refused c.loop-record.offset _ _ _ _ called.answer in
+    let p = err_from_is_err_and c.from_residual-in_err-make_form_call-in-FormRecord.result c.from_residual-in_err-make_form_call-in-FormRecord.ensures.1 in
     rw (p.1, p.2, e) (record { answer = refl; after = called.after })
 
-pub returns-in_err-make_assume_call : goal.returns-in_err-make_assume_call
-returns-in_err-make_assume_call c =
+pub returns-in_err-make_assume_call-in-AssumeRecord : goal.returns-in_err-make_assume_call-in-AssumeRecord
+returns-in_err-make_assume_call-in-AssumeRecord c =
     let request = ap Ok (sym c.in-AssumeRecord.is) ∙ c.in-Ok.ensures in
-    let called = c.in_err-make_assume_call.ensures in
-    let e = asked (goal.at.returns-in_err-make_assume_call c).In-Some _ request ∙ called_refused c.loop-record.offset _ _ _ _ called.answer in
-    let p = err_from_is_err_and c.from_residual-in_err-make_assume_call.result c.from_residual-in_err-make_assume_call.ensures.1 in
+    let called = c.in_err-make_assume_call-in-AssumeRecord.ensures in
+    let e = asked (goal.at.returns-in_err-make_assume_call-in-AssumeRecord c).In-Some _ request ∙ called_refused c.loop-record.offset _ _ _ _ called.answer in
+    let p = err_from_is_err_and c.from_residual-in_err-make_assume_call-in-AssumeRecord.result c.from_residual-in_err-make_assume_call-in-AssumeRecord.ensures.1 in
     rw (p.1, p.2, e) (record { answer = refl; after = called.after })
 
-pub loop-record-preserved-in_ok-make_form_call : goal.loop-record-preserved-in_ok-make_form_call
-loop-record-preserved-in_ok-make_form_call c =
+pub loop-record-preserved-in_ok-make_form_call-in-FormRecord : goal.loop-record-preserved-in_ok-make_form_call-in-FormRecord
+loop-record-preserved-in_ok-make_form_call-in-FormRecord c =
     let request = ap Ok (sym c.in-FormRecord.is) ∙ c.in-Ok.ensures in
-    let called = c.in_ok-make_form_call.ensures in
-    let e = asked (goal.at.loop-record-preserved-in_ok-make_form_call c).In-Some _ request ∙ called_answered c.loop-record.offset _ _ _ _ called.answer in
+    let called = c.in_ok-make_form_call-in-FormRecord.ensures in
+    let e = asked (goal.at.loop-record-preserved-in_ok-make_form_call-in-FormRecord c).In-Some _ request ∙ called_answered c.loop-record.offset _ _ _ _ called.answer in
     (search rules, rw (called.after, e))
 
 pub loop-record-preserved : goal.loop-record-preserved
 loop-record-preserved c =
     let request = ap Ok (sym c.in-AssumeRecord.is) ∙ c.in-Ok.ensures in
-    let called = c.in_ok-make_assume_call.ensures in
+    let called = c.in_ok-make_assume_call-in-AssumeRecord.ensures in
     let e = asked (goal.at.loop-record-preserved c).In-Some _ request ∙ called_answered c.loop-record.offset _ _ _ _ called.answer in
     (search rules, rw (called.after, e))
