@@ -116,7 +116,8 @@ mod tests {
         let mut buffer = [7; 64];
         assert_eq!(rt; list_file(OpenCase::new(heap)?, b"", &mut buffer), Ok(62));
         assert!(rt;
-            &buffer[0..62] == b"formulas 0 assumptions 0 lines 0 refutations 0\nrefused 1 25 0\n"
+            &buffer[0..62]
+                == b"formulas 0 assumptions 0 lines 0 refutations 0\nrefused 1 25 0\n".as_slice()
         );
         assert!(rt; buffer[62] == 7 && buffer[63] == 7);
         let mut short = [7; 61];
