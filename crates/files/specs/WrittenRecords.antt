@@ -1,6 +1,6 @@
 -- Records written as bytes, and that these are read back.
 use Rattle.std.specs.Prelude.{◌≡◌, ℕ, ◌/◌, ◌%◌, ◌<◌, List, [], ◌∷◌, ◌++◌, length}
-use Rattle.std.specs.List.{AllByRecursion as All}
+use Rattle.std.specs.List.{AllByRecursion}
 use Rattle.files.specs.Records.{Content, Records, none, more, records}
 
 -- a number in two bytes, the low one first
@@ -23,7 +23,7 @@ listed (r ∷ rs) = more r.kind r.payload (listed rs)
 
 -- numbers that fit a byte each
 abbrev pub Bytes : List ℕ → Type 0
-Bytes ns = All (λ n. n < 256) ns
+Bytes ns = AllByRecursion (λ n. n < 256) ns
 
 -- a record of bytes whose kind and payload's length have room in two bytes each
 pub record Writable (r : Content) : Type 0 where
@@ -33,4 +33,4 @@ pub record Writable (r : Content) : Type 0 where
 
 -- records that can be written are written as bytes, and the same records are read from these
 abbrev pub RecordsReadBack : Type 0
-RecordsReadBack = (rs : List Content) → All Writable rs → Bytes (all_written rs) × (records (all_written rs) ≡ listed rs)
+RecordsReadBack = (rs : List Content) → AllByRecursion Writable rs → Bytes (all_written rs) × (records (all_written rs) ≡ listed rs)
