@@ -23,11 +23,13 @@ OTHER = {
     "counts-line": "line_of_counts",
     "ending-line": "line_of_ending",
     "first-false": "first_false_from",
+    "first-refutation": "first_refutation_of",
+    "standing-line": "line_of_standing",
     "bit-and": "testBit_and",
     "bit-or": "testBit_or",
 }
 # bound by a let, a λ or a module
-BOUND = "f-in n-in j-in k-in i-in behind-in is-not not-true not-false is-full is-d is-r new-low on-now yes-it-does true-there same-entry same-refusal".split()
+BOUND = "f-in n-in j-in k-in i-in behind-in is-not not-true not-false is-full is-d is-r new-low on-now yes-it-does true-there same-entry same-refusal false-there A-is same-formula same-position case-of".split()
 
 
 def texts():
