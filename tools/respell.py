@@ -62,11 +62,14 @@ def main():
     for p in texts():
         with open(p, encoding="utf-8") as f:
             read[p] = f.read()
-    own, goals = set(BOUND), set()
+    own, goals = set(), set()
     for p, t in read.items():
         for name, goal in declared(p, t):
             (goals if goal else own).add(name)
-    turned = {n: respelled(n) for n in own - goals}
+    if not own - goals:
+        print("nothing to respell")
+        return 0
+    turned = {n: respelled(n) for n in own.union(BOUND) - goals}
     known = {w for t in read.values() for w in re.findall(r"[\w']+", t)}
     bad = [f"{n} -> {new}" for n, new in sorted(turned.items()) if new in known or list(turned.values()).count(new) > 1]
     if bad:
