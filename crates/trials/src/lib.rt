@@ -1,5 +1,10 @@
-// Trials of the calls on a case, and of a listing's buffer: each is proved, then run.
+// Trials of the calls on a case, of runs and rows, and of a listing's buffer: each is proved, then run.
 #![tactic(auto)]
+
+#[cfg(test)]
+mod along;
+#[cfg(test)]
+mod sources;
 
 #[cfg(test)]
 mod tests {
