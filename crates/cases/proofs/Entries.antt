@@ -1,10 +1,10 @@
 -- A formula and the entry that is read for it.
-use Rattle.std.proofs.Common.{◌≡◌, ℕ, ◌<◌, ◌≤◌, true, ◌&&◌, eqb, List, length, get_or, Some, None, Option, unwrap_or, sym, refl, ap, ◌∙◌, subst, ap₂, inl, inr, arith}
+use Rattle.std.proofs.Common.{◌≡◌, ℕ, ◌<◌, ◌≤◌, true, cond, eqb, List, length, get_or, Some, None, Option, unwrap_or, sym, refl, ap, ◌∙◌, subst, ap₂, inl, inr, arith}
 use lib.Dec
 use Rattle.std.specs.List.{slice_get}
 use Rattle.std.specs.Option.{option_map}
 use Rattle.std.proofs.lemmas.Option.{slice_get-get_or, slice_get_past}
-use Rattle.std.proofs.lemmas.Bool.{and_parts, and_from, ltb-true, eq-eqb, cases_lt}
+use Rattle.std.proofs.lemmas.Bool.{and_parts, ltb-true, cases_lt}
 use Rattle.logic.specs.Formula.{Formula}
 use Rattle.logic.specs.Same.{same}
 use Rattle.formulas.specs.declared.entry.Entry.{Entry}
@@ -14,7 +14,7 @@ use Rattle.formulas.specs.Entries.{kind_of, left_of, right_of, placed, Lower}
 use Rattle.formulas.specs.Decode.{of_entry, formula_at, decoded}
 use Rattle.formulas.proofs.Members.{some_same, some_not_none}
 use Rattle.formulas.proofs.Places.{place_only}
-use Rattle.formulas.proofs.Likeness.{same_tells, alike_tells}
+use Rattle.formulas.proofs.Likeness.{same_tells}
 use Rattle.formulas.proofs.Decoded.{formula_at_is, decoded_nth, decoded_length}
 use Rattle.formulas.proofs.Forming.{decoded_distinct}
 use Rattle.cases.specs.Case.{Case}
@@ -24,7 +24,7 @@ use Rattle.cases.specs.Limits.{Limits}
 
 -- the number of a formula that is in a list
 number_is : (fs : List Formula) → Distinct fs → (n : ℕ) (A : Formula) → Number fs n A → number_in fs A ≡ n
-number_is fs distinct n A is = ap (λ (o : Option ℕ). unwrap_or o 0) (place_only same same_tells fs distinct A n is)
+number_is fs distinct n A is = ap (λ (o : Option ℕ). unwrap_or o 0) (place_only same same_tells fs A distinct n is)
 
 -- ---- what the list of entries answers
 
@@ -58,11 +58,20 @@ pub record Fields (e : Entry) (kind left right : ℕ) : Type 0 where
   pub left_is : left_of e ≡ left
   pub right_is : right_of e ≡ right
 
+-- an entry is made of its three numbers
+of_three : ℕ → ℕ → ℕ → Entry
+of_three k l r = cond (eqb k 0) False (cond (eqb k 1) (Atom l) (cond (eqb k 2) (Implies l r) (cond (eqb k 3) (Next l) (Always l))))
+
+of_three_is : (e : Entry) → of_three (kind_of e) (left_of e) (right_of e) ≡ e
+unfolding of_three
+of_three_is False = refl
+of_three_is (Atom a) = refl
+of_three_is (Implies a b) = refl
+of_three_is (Next a) = refl
+of_three_is (Always a) = refl
+
 fields_same : (d e : Entry) → Fields d (kind_of e) (left_of e) (right_of e) → d ≡ e
-fields_same d e f =
-    alike_tells.sound d e
-    (and_from (eqb (kind_of d) (kind_of e)) (eqb (left_of d) (left_of e) && eqb (right_of d) (right_of e)) (eq-eqb (kind_of d) (kind_of e) f.kind_is)
-    (and_from (eqb (left_of d) (left_of e)) (eqb (right_of d) (right_of e)) (eq-eqb (left_of d) (left_of e) f.left_is) (eq-eqb (right_of d) (right_of e) f.right_is)))
+fields_same d e f = sym (of_three_is d) ∙ (λ i. of_three (f.kind_is i) (f.left_is i) (f.right_is i)) ∙ of_three_is e
 
 as_described : (fs : List Formula) → Distinct fs → {kind left right : ℕ} {A : Formula} → Describes fs kind left right A → Fields (as_entry fs A) kind left right
 as_described fs distinct false_kind = record { kind_is = refl; left_is = refl; right_is = refl }

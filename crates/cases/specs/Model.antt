@@ -1,17 +1,17 @@
 -- The model that a case of the program stands for.
-use Rattle.std.specs.Prelude.{[], vec_items}
+use Rattle.std.specs.Prelude.{[]}
 use Rattle.formulas.specs.Listed.{formulas_of}
-use Rattle.cases.specs.declared.theory.Theory.{Theory}
-use Rattle.cases.specs.declared.open.OpenCase.{OpenCase}
-use Rattle.cases.specs.declared.sealed.SealedCase.{SealedCase}
+use Rattle.cases.specs.declared.case.Case as declared
+use Rattle.cases.specs.declared.stage.Open.{Open}
+use Rattle.cases.specs.declared.stage.Sealed.{Sealed}
 use Rattle.cases.specs.Case.{Case}
 
--- formulas and assumptions alone
-abbrev pub grounded : Theory → Case
-grounded t = record { formulas = formulas_of t.formulas; assumptions = vec_items t.assumptions; lines = []; refutations = [] }
+-- formulas and assumptions alone, at either stage
+unfoldable pub modelled : {S : Type 0} → declared.Case S → Case
+modelled c = record { formulas = formulas_of c.formulas; assumptions = c.assumptions; lines = []; refutations = [] }
 
-unfoldable pub opened : OpenCase → Case
-opened c = grounded c.theory
+abbrev pub opened : declared.Case Open → Case
+opened c = modelled c
 
-unfoldable pub sealed : SealedCase → Case
-sealed c = grounded c.theory
+abbrev pub sealed : declared.Case Sealed → Case
+sealed c = modelled c

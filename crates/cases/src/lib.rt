@@ -1,11 +1,10 @@
 // Cases: formulas and assumptions, first open and then sealed.
 #![tactic(auto)]
 
+mod case;
 mod counts;
-mod open;
-mod sealed;
-mod theory;
+mod stage;
 
+pub use case::{Case, OpenCase, SealedCase};
 pub use counts::Counts;
-pub use open::OpenCase;
-pub use sealed::SealedCase;
+pub use stage::{Open, Sealed};

@@ -1,13 +1,17 @@
 -- What adding keeps.
-use Rattle.std.proofs.Common.{ℕ, ◌≤◌, ltb, List, [], ◌∷◌, ◌++◌, length, Some, None, Ok, Err, Option, Result, arith}
+use Rattle.std.proofs.Common.{◌≡◌, ℕ, ◌≤◌, Bool, true, false, ltb, cond, List, [], ◌∷◌, ◌++◌, length, Some, None, Ok, Err, Option, Result, refl, arith}
+use Rattle.std.specs.List.{slice_get}
+use Rattle.std.specs.Option.{ok_or}
 use Rattle.std.proofs.lemmas.List.{length_push}
 use Rattle.std.proofs.lemmas.Bool.{cond_both}
 use Rattle.refusals.specs.declared.Refusal.{Refusal}
 use Rattle.logic.specs.Formula.{Formula}
 use Rattle.formulas.specs.declared.entry.Entry.{Entry}
-use Rattle.formulas.specs.Adding.{add_after}
+use Rattle.formulas.specs.Adding.{Distinct, place, number_of, add_answer, add_after}
 use Rattle.formulas.specs.Entries.{asked}
 use Rattle.formulas.specs.Forming.{after_for, form_after}
+use Rattle.formulas.proofs.Members.{distinct_push, every_push}
+use Rattle.formulas.proofs.Places.{Tells, none_there}
 
 -- no list gets shorter
 pub add_longer : {X : Type 0} (most : ℕ) (xs : List X) (x : X) (o : Option ℕ) → length xs ≤ length (add_after most xs x o)
@@ -22,3 +26,27 @@ form_longer fs kind left right = longer (asked (length fs) kind left right)
     longer : (r : Result Entry Refusal) → length fs ≤ length (after_for fs r)
     longer (Ok e) = add_longer 1024 fs _ _
     longer (Err x) = omega arith
+
+-- a number or a refusal, where the refusal stands for none
+pub number_or : {X E : Type 0} (most : ℕ) (full : E) (xs : List X) (o : Option ℕ) → ok_or (number_of most xs o) full ≡ add_answer most full xs o
+number_or most full xs (Some i) = refl
+number_or most full xs None = by (ltb (length xs) most)
+  where
+    by : (b : Bool) → ok_or (cond b (Some (length xs)) None) full ≡ cond b (Ok (length xs)) (Err full)
+    by true = refl
+    by false = refl
+
+-- a list without repeats stays one
+pub add_distinct : {X : Type 0} (eq : X → X → Bool) → Tells eq → (most : ℕ) (xs : List X) (x : X) → Distinct xs → Distinct (add_after most xs x (place eq xs x))
+add_distinct {X} eq tells most xs x distinct = by (place eq xs x) refl
+  where
+    by : (o : Option ℕ) → place eq xs x ≡ o → Distinct (add_after most xs x o)
+    by (Some i) found = distinct
+    by None found = cond_both (ltb (length xs) most) (xs ++ x ∷ []) xs Distinct (λ _. distinct_push xs x distinct (none_there eq tells xs x found)) (λ _. distinct)
+
+-- what holds of each member and of what is added holds of each member afterwards
+pub add_every : {X : Type 0} (P : X → Type 0) (most : ℕ) (xs : List X) (x : X) (o : Option ℕ) → ((k : ℕ) (y : X) → slice_get xs k ≡ Some y → P y) → P x
+    → (k : ℕ) (y : X) → slice_get (add_after most xs x o) k ≡ Some y → P y
+add_every P most xs x (Some i) old here = old
+add_every P most xs x None old here =
+    cond_both (ltb (length xs) most) (xs ++ x ∷ []) xs (λ ys. (k : ℕ) (y : _) → slice_get ys k ≡ Some y → P y) (λ _. every_push P xs x old here) (λ _. old)

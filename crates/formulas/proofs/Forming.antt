@@ -1,6 +1,7 @@
 -- Entering an entry is entering its formula.
-use Rattle.std.proofs.Common.{◌≡◌, ℕ, ◌<◌, ◌≤◌, true, ltb, List, [], ◌∷◌, ◌++◌, length, get_or, Some, None, Ok, Err, Option, Result, sym, ap, ◌∙◌, subst, inl, inr, arith}
+use Rattle.std.proofs.Common.{◌≡◌, ℕ, ◌<◌, ◌≤◌, Bool, true, cond, ltb, List, [], ◌∷◌, ◌++◌, length, get_or, Some, None, Ok, Err, Option, Result, sym, ap, ◌∙◌, subst, inl, inr, arith}
 use Rattle.std.specs.List.{slice_get}
+use Rattle.std.specs.Option.{ok_or}
 use Rattle.std.proofs.lemmas.Bool.{cases_lt, cond-true, cond-false, lt-ltb, le-ltb}
 use Rattle.std.proofs.lemmas.List.{length_push, get_or_push, get_or_append_left, ext_get_or}
 use Rattle.std.proofs.lemmas.Option.{slice_get-get_or}
@@ -10,13 +11,13 @@ use Rattle.logic.specs.Formula.{Formula, falsum}
 use Rattle.logic.specs.Same.{same}
 use Rattle.formulas.specs.declared.entry.Entry.{Entry}
 use Rattle.formulas.specs.declared.entry.Entry.TheVariants.{False}
-use Rattle.formulas.specs.Adding.{Distinct, place, add_answer, add_after}
-use Rattle.formulas.specs.Entries.{alike, placed, asked, Lower}
+use Rattle.formulas.specs.Adding.{Distinct, place, number_of, add_answer, add_after}
+use Rattle.formulas.specs.Entries.{placed, asked, Lower}
 use Rattle.formulas.specs.Decode.{of_entry, formula_at, decoded}
 use Rattle.formulas.specs.Forming.{numbered, answer_for, after_for, form_answer, form_after}
 use Rattle.formulas.proofs.Members.{some_same, nth_within, distinct_push}
 use Rattle.formulas.proofs.Places.{place_is, place_only, place_none, none_there}
-use Rattle.formulas.proofs.Likeness.{same_tells, alike_tells}
+use Rattle.formulas.proofs.Likeness.{same_tells, entry_eq, entry_tells}
 use Rattle.formulas.proofs.Decoded.{of_entry_same, of_entry_injective, formula_at_is, formula_kept, formula_injective, decoded_length, decoded_at, decoded_nth}
 use Rattle.formulas.proofs.Asked.{asked_fine, lower_push}
 
@@ -25,6 +26,8 @@ pub record Formed (es es' : List Entry) (kind left right : ℕ) (r : Result ℕ 
   pub answer : r ≡ form_answer (decoded es) kind left right
   pub after : decoded es' ≡ form_after (decoded es) kind left right
   pub distinct : Distinct (decoded es')
+  pub apart : Distinct es'
+  pub lower : Lower es'
 
 module _ (es : List Entry) (low : Lower es) (distinct : Distinct es) where
   -- no two entries stand for one formula
@@ -54,9 +57,9 @@ module _ (es : List Entry) (low : Lower es) (distinct : Distinct es) where
         decoded_nth es k k_in ∙ ap Some (formula_at_is es low k k_in ∙ ap (of_entry (formula_at es)) here)
 
     -- an entry is found where its formula is
-    places : (o : Option ℕ) → place alike es e ≡ o → place same (decoded es) meaning ≡ o
-    places (Some i) is = place_only same same_tells (decoded es) decoded_distinct meaning i (formula_there i (place_is alike alike_tells es e i is))
-    places None is = place_none same same_tells (decoded es) meaning (λ k there. none_there alike alike_tells es e is k (entry_there k there))
+    places : (o : Option ℕ) → place entry_eq es e ≡ o → place same (decoded es) meaning ≡ o
+    places (Some i) is = place_only same same_tells (decoded es) meaning decoded_distinct i (formula_there i (place_is entry_eq entry_tells es e i is))
+    places None is = place_none same same_tells (decoded es) meaning (λ k there. none_there entry_eq entry_tells es e is k (entry_there k there))
 
     decoded_push : decoded (es ++ e ∷ []) ≡ decoded es ++ meaning ∷ []
     decoded_push =
@@ -88,55 +91,74 @@ module _ (es : List Entry) (low : Lower es) (distinct : Distinct es) where
     asked_here : asked (length (decoded es)) kind left right ≡ Ok e
     asked_here = ap (λ (n : ℕ). asked n kind left right) (decoded_length es) ∙ is
 
-    answer_is : (o : Option ℕ) → place alike es e ≡ o → add_answer 1024 FormulasFull (decoded es) o ≡ form_answer (decoded es) kind left right
+    answer_is : (o : Option ℕ) → place entry_eq es e ≡ o → add_answer 1024 FormulasFull (decoded es) o ≡ form_answer (decoded es) kind left right
     unfolding form_answer
     answer_is o found =
         sym (ap (answer_for (decoded es)) asked_here
         ∙ ap (λ (A : Formula). add_answer 1024 FormulasFull (decoded es) (place same (decoded es) A)) (meant e fine)
         ∙ ap (add_answer 1024 FormulasFull (decoded es)) (places e fine o found))
 
-    after_is : (o : Option ℕ) → place alike es e ≡ o → add_after 1024 (decoded es) (of_entry (formula_at es) e) o ≡ form_after (decoded es) kind left right
+    after_is : (o : Option ℕ) → place entry_eq es e ≡ o → add_after 1024 (decoded es) (of_entry (formula_at es) e) o ≡ form_after (decoded es) kind left right
     unfolding form_after
     after_is o found =
         sym (ap (after_for (decoded es)) asked_here
         ∙ ap (λ (A : Formula). add_after 1024 (decoded es) A (place same (decoded es) A)) (meant e fine)
         ∙ ap (add_after 1024 (decoded es) (of_entry (formula_at es) e)) (places e fine o found))
 
-    pub formed_old : (i : ℕ) → place alike es e ≡ Some i → Formed es es kind left right (Ok i)
-    formed_old i found = record { answer = answer_is (Some i) found; after = after_is (Some i) found; distinct = decoded_distinct }
+    formed_old : (i : ℕ) → place entry_eq es e ≡ Some i → Formed es es kind left right (Ok i)
+    formed_old i found = record { answer = answer_is (Some i) found; after = after_is (Some i) found; distinct = decoded_distinct; apart = distinct; lower = low }
 
-    pub formed_full : place alike es e ≡ None → 1024 ≤ length es → Formed es es kind left right (Err FormulasFull)
-    formed_full found full =
-        let b = le-ltb (length (decoded es)) 1024 (omega (arith, decoded_length es)) in
-        record {
-          answer = sym (cond-false (ltb (length (decoded es)) 1024) _ _ b) ∙ answer_is None found;
-          after = sym (cond-false (ltb (length (decoded es)) 1024) _ _ b) ∙ after_is None found;
-          distinct = decoded_distinct;
-        }
+    module _ (found : place entry_eq es e ≡ None) where
+      none_before : (k : ℕ) → slice_get es k ≡ Some e → ⊥
+      none_before = none_there entry_eq entry_tells es e found
 
-    -- the entries afterwards keep what the list keeps
-    pub new_distinct : place alike es e ≡ None → Distinct (es ++ e ∷ [])
-    new_distinct found = distinct_push es e distinct (none_there alike alike_tells es e found)
+      formed_full : 1024 ≤ length es → Formed es es kind left right (Err FormulasFull)
+      formed_full full =
+          let b = le-ltb (length (decoded es)) 1024 (omega (arith, decoded_length es)) in
+          record {
+            answer = sym (cond-false (ltb (length (decoded es)) 1024) _ _ b) ∙ answer_is None found;
+            after = sym (cond-false (ltb (length (decoded es)) 1024) _ _ b) ∙ after_is None found;
+            distinct = decoded_distinct;
+            apart = distinct;
+            lower = low;
+          }
 
-    pub new_lower : Lower (es ++ e ∷ [])
-    new_lower = lower_push es e low fine
+      -- what the list has with the entry at its end
+      pushed_apart : Distinct (es ++ e ∷ [])
+      pushed_apart = distinct_push es e distinct none_before
+
+      pushed_lower : Lower (es ++ e ∷ [])
+      pushed_lower = lower_push es e low fine
 
 -- a new entry stands at the end
-pub formed_new : (es : List Entry) (low : Lower es) (distinct : Distinct es) (kind left right : ℕ) (e : Entry) (is : asked (length es) kind left right ≡ Ok e) → place alike es e ≡ None
-    → (n : ℕ) → n ≡ length es → n < 1024 → (es' : List Entry) → es' ≡ es ++ e ∷ [] → Formed es es' kind left right (Ok n)
-formed_new es low distinct kind left right e is found n at room es' pushed =
+formed_new : (es : List Entry) (low : Lower es) (distinct : Distinct es) (kind left right : ℕ) (e : Entry) (is : asked (length es) kind left right ≡ Ok e) → place entry_eq es e ≡ None
+    → length es < 1024 → Formed es (es ++ e ∷ []) kind left right (Ok (length es))
+formed_new es low distinct kind left right e is found room =
     let b = lt-ltb (length (decoded es)) 1024 (omega (arith, decoded_length es)) in
-    let new_low = new_lower es low distinct kind left right e is in
-    let new_apart = new_distinct es low distinct kind left right e is found in
+    let apart = pushed_apart es low distinct kind left right e is found in
+    let lower = pushed_lower es low distinct kind left right e is found in
     record {
       answer =
-          ap Ok (at ∙ sym (decoded_length es)) ∙ sym (cond-true (ltb (length (decoded es)) 1024) (Ok (length (decoded es))) (Err FormulasFull) b)
+          ap Ok (sym (decoded_length es)) ∙ sym (cond-true (ltb (length (decoded es)) 1024) (Ok (length (decoded es))) (Err FormulasFull) b)
           ∙ answer_is es low distinct kind left right e is None found;
       after =
-          ap decoded pushed ∙ decoded_push es low distinct e (fine es low distinct kind left right e is)
+          decoded_push es low distinct e (fine es low distinct kind left right e is)
           ∙ sym (cond-true (ltb (length (decoded es)) 1024) _ _ b) ∙ after_is es low distinct kind left right e is None found;
-      distinct = subst (λ (xs : List Entry). Distinct (decoded xs)) (sym pushed) (decoded_distinct (es ++ e ∷ []) new_low new_apart);
+      distinct = decoded_distinct (es ++ e ∷ []) lower apart;
+      apart = apart;
+      lower = lower;
     }
+
+-- entering what is asked for, by where it stands already
+pub formed : (es : List Entry) (low : Lower es) (distinct : Distinct es) (kind left right : ℕ) (e : Entry) (is : asked (length es) kind left right ≡ Ok e)
+    → (o : Option ℕ) → place entry_eq es e ≡ o → Formed es (add_after 1024 es e o) kind left right (ok_or (number_of 1024 es o) FormulasFull)
+formed es low distinct kind left right e is (Some i) found = formed_old es low distinct kind left right e is i found
+formed es low distinct kind left right e is None found =
+    let by : Bool → Type 0 = λ b. Formed es (cond b (es ++ e ∷ []) es) kind left right (ok_or (cond b (Some (length es)) None) FormulasFull) in
+    elim (cases_lt (length es) 1024) [
+      | inl room ↦ subst by (sym (lt-ltb (length es) 1024 room)) (formed_new es low distinct kind left right e is found room)
+      | inr full ↦ subst by (sym (le-ltb (length es) 1024 full)) (formed_full es low distinct kind left right e is found full)
+    ]
 
 -- what is refused before an entry is there changes nothing
 pub formed_refused : (es : List Entry) (low : Lower es) (distinct : Distinct es) (kind left right : ℕ) (x : Refusal) → asked (length es) kind left right ≡ Err x → Formed es es kind left right (Err x)
@@ -147,4 +169,6 @@ formed_refused es low distinct kind left right x is =
       answer = sym (ap (answer_for (decoded es)) here);
       after = sym (ap (after_for (decoded es)) here);
       distinct = decoded_distinct es low distinct;
+      apart = distinct;
+      lower = low;
     }

@@ -1,18 +1,12 @@
 -- Where something stands in a list, by a test of likeness that is equality.
-use Rattle.std.proofs.Common.{◌≡◌, ℕ, zero, suc, ◌<◌, Bool, true, false, List, [], ◌∷◌, Some, None, Option, sym, refl, ap, ◌∙◌, subst, inl, inr, arith}
-use Rattle.std.specs.List.{slice_get}
-use Rattle.std.specs.Option.{option_map}
-use Rattle.std.proofs.lemmas.Bool.{cases_Bool, cond-true, cond-false}
+use Rattle.std.proofs.Common.{◌≡◌, ℕ, ◌<◌, Bool, true, false, ltb, List, length, get_or, Some, None, sym, ap, ◌∙◌, subst, inl, inr, arith}
+use Rattle.std.specs.List.{slice_get, position_or_len}
+use Rattle.std.proofs.lemmas.Bool.{cases_Bool, cases_lt, cond-true, cond-false, lt-ltb, le-ltb, true≢false}
+use Rattle.std.proofs.lemmas.List.Quantifiers.{position-Some}
+use Rattle.std.proofs.lemmas.List.Sums.{position_or_len_is, fails_before_first}
+use Rattle.std.proofs.lemmas.Option.{slice_get-get_or}
 use Rattle.formulas.specs.Adding.{Distinct, place}
 use Rattle.formulas.proofs.Members.{some_same, some_not_none, nth_within}
-
-mapped_none : (o : Option ℕ) → option_map suc o ≡ None → o ≡ None
-mapped_none None e = refl
-mapped_none (Some x) e = absurd (some_not_none e)
-
-mapped_some : (o : Option ℕ) (i : ℕ) → option_map suc o ≡ Some i → (k : ℕ) × (suc k ≡ i) × (o ≡ Some k)
-mapped_some None i e = absurd (some_not_none (sym e))
-mapped_some (Some x) i e = (x, some_same e, refl)
 
 -- the test is equality
 pub record Tells {X : Type 0} (eq : X → X → Bool) : Type 0 where
@@ -23,61 +17,59 @@ module _ {X : Type 0} (eq : X → X → Bool) (tells : Tells eq) where
   differ : (x y : X) → (x ≡ y → ⊥) → eq x y ≡ false
   differ x y h = elim (cases_Bool (eq x y)) [ inl t ↦ absurd (h (tells.sound x y t)) | inr f ↦ f ]
 
-  -- the place that is found holds x
-  pub place_is : (ys : List X) (x : X) (i : ℕ) → place eq ys x ≡ Some i → slice_get ys i ≡ Some x
-  place_is [] x i e = absurd (some_not_none (sym e))
-  place_is (y ∷ ys) x i e =
-      elim (cases_Bool (eq y x)) [
-        | inl t ↦
-            let z : 0 ≡ i = some_same (sym (cond-true (eq y x) (Some 0) (option_map suc (place eq ys x)) t) ∙ e) in
-            subst (λ (k : ℕ). slice_get (y ∷ ys) k ≡ Some x) z (ap Some (tells.sound y x t))
-        | inr f ↦
-            let p = mapped_some (place eq ys x) i (sym (cond-false (eq y x) (Some 0) (option_map suc (place eq ys x)) f) ∙ e) in
-            subst (λ (k : ℕ). slice_get (y ∷ ys) k ≡ Some x) p.1 (place_is ys x p.0 p.2)
-      ]
+  module _ (ys : List X) (x : X) where
+    likes : X → Bool
+    likes y = eq y x
 
-  -- the first place of x is found
-  pub place_first : (ys : List X) (x : X) (i : ℕ) → slice_get ys i ≡ Some x → ((k : ℕ) → k < i → slice_get ys k ≡ Some x → ⊥) → place eq ys x ≡ Some i
-  place_first [] x i e before = absurd (some_not_none (sym e))
-  place_first (y ∷ ys) x zero e before =
-      let z : x ≡ y = sym (some_same e) in
-      cond-true (eq y x) _ _ (subst (λ (w : X). eq y w ≡ true) (sym z) (tells.itself y))
-  place_first (y ∷ ys) x (suc i) e before =
-      cond-false (eq y x) _ _ (differ y x (λ z. before 0 (omega arith) (ap Some z)))
-      ∙ ap (option_map suc) (place_first ys x i e (λ k l. before (suc k) (omega arith)))
+    -- x passes where it stands
+    passes : (i : ℕ) → slice_get ys i ≡ Some x → eq (get_or ys i x) x ≡ true
+    passes i is =
+        let here : get_or ys i x ≡ x = some_same (sym (slice_get-get_or ys i x (nth_within ys i is)) ∙ is) in
+        subst (λ (y : X). eq y x ≡ true) (sym here) (tells.itself x)
 
-  -- and there is none before it
-  pub place_least : (ys : List X) (x : X) (i : ℕ) → place eq ys x ≡ Some i → (k : ℕ) → k < i → slice_get ys k ≡ Some x → ⊥
-  place_least [] x i e k lt is = some_not_none (sym is)
-  place_least (y ∷ ys) x i e zero lt is =
-      let first : place eq (y ∷ ys) x ≡ Some 0 = place_first (y ∷ ys) x 0 is (λ k l. absurd (omega arith)) in
-      let z : 0 ≡ i = some_same (sym first ∙ e) in
-      omega arith
-  place_least (y ∷ ys) x i e (suc k) lt is =
-      elim (cases_Bool (eq y x)) [
-        | inl t ↦ let z : 0 ≡ i = some_same (sym (cond-true (eq y x) (Some 0) (option_map suc (place eq ys x)) t) ∙ e) in omega arith
-        | inr f ↦
-            let p = mapped_some (place eq ys x) i (sym (cond-false (eq y x) (Some 0) (option_map suc (place eq ys x)) f) ∙ e) in
-            place_least ys x p.0 p.2 k (omega (arith, p.1)) is
-      ]
+    -- the place that is found holds x
+    pub place_is : (i : ℕ) → place eq ys x ≡ Some i → slice_get ys i ≡ Some x
+    place_is i found =
+        let at = position-Some (λ y. eq y x) ys i x found in
+        slice_get-get_or ys i x at.0 ∙ ap Some (tells.sound (get_or ys i x) x at.1)
 
-  -- in a list without repeats, the only place is the first
-  pub place_only : (ys : List X) → Distinct ys → (x : X) (i : ℕ) → slice_get ys i ≡ Some x → place eq ys x ≡ Some i
-  place_only ys distinct x i e = place_first ys x i e (λ k l f. distinct k i l (nth_within ys i e) (f ∙ sym e))
+    -- and there is none before it
+    pub place_least : (i : ℕ) → place eq ys x ≡ Some i → (k : ℕ) → k < i → slice_get ys k ≡ Some x → ⊥
+    place_least i found k before is = true≢false (sym (passes k is) ∙ (position-Some (λ y. eq y x) ys i x found).2 k before)
 
-  -- no place is found where x is not
-  pub place_none : (ys : List X) (x : X) → ((k : ℕ) → slice_get ys k ≡ Some x → ⊥) → place eq ys x ≡ None
-  place_none [] x none = refl
-  place_none (y ∷ ys) x none =
-      cond-false (eq y x) _ _ (differ y x (λ z. none 0 (ap Some z)))
-      ∙ ap (option_map suc) (place_none ys x (λ k. none (suc k)))
+    -- in a list without repeats, the only place is the first
+    pub place_only : Distinct ys → (i : ℕ) → slice_get ys i ≡ Some x → place eq ys x ≡ Some i
+    place_only distinct i is =
+        let i_in : i < length ys = nth_within ys i is in
+        let at : position_or_len (λ y. eq y x) ys ≡ i =
+        position_or_len_is (λ y. eq y x) ys i x (omega arith)
+        (λ k before. differ (get_or ys k x) x (λ z. distinct k i before i_in (slice_get-get_or ys k x (omega arith) ∙ ap Some z ∙ sym is)))
+        (λ _. passes i is) in
+        cond-true (ltb (position_or_len (λ y. eq y x) ys) (length ys)) _ _ (lt-ltb _ _ (omega arith)) ∙ ap Some at
 
-  -- where no place is found, x is not
-  pub none_there : (ys : List X) (x : X) → place eq ys x ≡ None → (k : ℕ) → slice_get ys k ≡ Some x → ⊥
-  none_there [] x e k s = some_not_none (sym s)
-  none_there (y ∷ ys) x e zero s = some_not_none (sym (place_first (y ∷ ys) x 0 s (λ k l. omega arith)) ∙ e)
-  none_there (y ∷ ys) x e (suc k) s =
-      elim (cases_Bool (eq y x)) [
-        | inl t ↦ some_not_none (sym (cond-true (eq y x) (Some 0) (option_map suc (place eq ys x)) t) ∙ e)
-        | inr f ↦ none_there ys x (mapped_none (place eq ys x) (sym (cond-false (eq y x) (Some 0) (option_map suc (place eq ys x)) f) ∙ e)) k s
-      ]
+    -- no place is found where x is not
+    pub place_none : ((k : ℕ) → slice_get ys k ≡ Some x → ⊥) → place eq ys x ≡ None
+    place_none none =
+        let at : position_or_len (λ y. eq y x) ys ≡ length ys =
+        position_or_len_is (λ y. eq y x) ys (length ys) x (omega arith)
+        (λ k within. differ (get_or ys k x) x (λ z. none k (slice_get-get_or ys k x within ∙ ap Some z)))
+        (λ past. absurd (omega arith)) in
+        cond-false (ltb (position_or_len (λ y. eq y x) ys) (length ys)) _ _ (le-ltb _ _ (omega arith))
+
+    -- where no place is found, x is not
+    pub none_there : place eq ys x ≡ None → (k : ℕ) → slice_get ys k ≡ Some x → ⊥
+    none_there found k is =
+        elim (cases_lt (position_or_len (λ y. eq y x) ys) (length ys)) [
+          | inl within ↦ some_not_none (sym (cond-true (ltb (position_or_len (λ y. eq y x) ys) (length ys)) _ _ (lt-ltb _ _ within)) ∙ found)
+          | inr past ↦ true≢false (sym (passes k is) ∙ fails_before_first (λ y. eq y x) ys k x (omega (arith, nth_within ys k is)))
+        ]
+
+-- two tests that are both equality find the same place
+pub same_place : {X : Type 0} (e f : X → X → Bool) → Tells e → Tells f → (ys : List X) (x : X) → place e ys x ≡ place f ys x
+same_place {X} e f of_e of_f ys x = ap (λ (t : X → X → Bool). place t ys x) (λ i y z. same y z i)
+  where
+    same : (y z : X) → e y z ≡ f y z
+    same y z = elim (cases_Bool (f y z)) [
+      | inl t ↦ subst (λ (w : X). e y w ≡ f y z) (of_f.sound y z t) (of_e.itself y ∙ sym (subst (λ (w : X). f y w ≡ true) (of_f.sound y z t) (of_f.itself y)))
+      | inr g ↦ differ e of_e y z (λ s. true≢false (sym (subst (λ (w : X). f y w ≡ true) s (of_f.itself y)) ∙ g)) ∙ sym g
+    ]

@@ -1,7 +1,6 @@
 -- Lists in which nothing stands twice, and how one is added to.
-use Rattle.std.specs.Prelude.{ℕ, suc, ◌<◌, Bool, cond, List, [], ◌∷◌, ◌++◌, length, Some, None, Ok, Err, Option, Result, ◌≢◌, nat_lt}
-use Rattle.std.specs.List.{slice_get}
-use Rattle.std.specs.Option.{option_map}
+use Rattle.std.specs.Prelude.{ℕ, ◌<◌, Bool, cond, List, [], ◌∷◌, ◌++◌, length, Some, None, Ok, Err, Option, Result, ◌≢◌, nat_lt}
+use Rattle.std.specs.List.{slice_get, position}
 
 -- no two members are equal
 abbrev pub Distinct : {X : Type 0} → List X → Type 0
@@ -9,13 +8,17 @@ Distinct xs = (i j : ℕ) → i < j → j < length xs → slice_get xs i ≢ sli
 
 -- where x first stands, by a test of likeness
 abbrev pub place : {X : Type 0} → (X → X → Bool) → List X → X → Option ℕ
-place alike [] x = None
-place alike (y ∷ ys) x = cond (alike y x) (Some 0) (option_map suc (place alike ys x))
+place alike xs x = position (λ y. alike y x) xs
 
 -- the answer for what stands at a place already, or nowhere: its place, else the next one, or a refusal where the list is full
 abbrev pub add_answer : {X E : Type 0} → ℕ → E → List X → Option ℕ → Result ℕ E
 add_answer most full xs (Some i) = Ok i
 add_answer most full xs None = cond (nat_lt (length xs) most) (Ok (length xs)) (Err full)
+
+-- the same without a refusal: none where the list is full
+abbrev pub number_of : {X : Type 0} → ℕ → List X → Option ℕ → Option ℕ
+number_of most xs (Some i) = Some i
+number_of most xs None = cond (nat_lt (length xs) most) (Some (length xs)) None
 
 -- the list afterwards: what is new stands at its end
 abbrev pub add_after : {X : Type 0} → ℕ → List X → X → Option ℕ → List X

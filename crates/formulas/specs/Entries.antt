@@ -3,6 +3,8 @@ use Rattle.std.specs.Prelude.{◌≡◌, ℕ, ◌<◌, Bool, true, cond, ◌&&�
 use Rattle.refusals.specs.declared.Refusal.{Refusal}
 use Rattle.refusals.specs.declared.Refusal.TheVariants.{UnknownKind, BadField}
 use Rattle.formulas.specs.declared.entry.Entry.{Entry}
+use Rattle.formulas.specs.declared.entry.Kind.{Kind}
+use Rattle.formulas.specs.declared.entry.Kind.TheVariants as kinds
 use Rattle.formulas.specs.declared.entry.Entry.TheVariants.{False, Atom, Implies, Next, Always}
 
 -- an entry as three numbers, its kind and two fields, where an unused field is 0
@@ -27,10 +29,6 @@ right_of (Implies a b) = b
 right_of (Next a) = 0
 right_of (Always a) = 0
 
--- two entries are alike if all three numbers are equal
-abbrev pub alike : Entry → Entry → Bool
-alike d e = kind_of d == kind_of e && (left_of d == left_of e && right_of d == right_of e)
-
 -- whether an entry may stand behind n others: an atom is at most 31, and operands have lower numbers
 abbrev pub placed : ℕ → Entry → Bool
 placed n False = true
@@ -38,6 +36,16 @@ placed n (Atom a) = nat_le a 31
 placed n (Implies a b) = nat_lt a n && nat_lt b n
 placed n (Next a) = nat_lt a n
 placed n (Always a) = nat_lt a n
+
+-- the kind with a number
+abbrev pub kind_numbered : ℕ → Result Kind Refusal
+kind_numbered n =
+    cond (n == 0) (Ok kinds.False)
+    (cond (n == 1) (Ok kinds.Atom)
+    (cond (n == 2) (Ok kinds.Implies)
+    (cond (n == 3) (Ok kinds.Next)
+    (cond (n == 4) (Ok kinds.Always)
+    (Err UnknownKind)))))
 
 -- an entry whose unused fields are 0, if it may stand there
 abbrev pub when_placed : ℕ → Entry → Bool → Result Entry Refusal

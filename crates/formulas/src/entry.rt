@@ -1,6 +1,6 @@
 // One entry of a formula list: its kind, with the numbers of earlier entries as operands.
 ghost use Rattle.std.specs.Prelude.{◌≡◌};
-ghost use Rattle.formulas.specs.Entries.{asked};
+ghost use Rattle.formulas.specs.Entries.{asked, kind_numbered};
 
 use refusals::Refusal;
 
@@ -13,6 +13,33 @@ pub enum Entry {
     Always(u16),
 }
 
+// The kinds of entries.
+#[derive(Clone, Copy)]
+enum Kind {
+    False,
+    Atom,
+    Implies,
+    Next,
+    Always,
+}
+
+impl TryFrom<u8> for Kind {
+    type Error = Refusal;
+
+    ghost try_from_gives = { λ number r. r ≡ kind_numbered number };
+
+    fn try_from(number: u8) -> Result<Kind, Refusal> {
+        match number {
+            0 => Ok(Kind::False),
+            1 => Ok(Kind::Atom),
+            2 => Ok(Kind::Implies),
+            3 => Ok(Kind::Next),
+            4 => Ok(Kind::Always),
+            _ => Err(Refusal::UnknownKind),
+        }
+    }
+}
+
 impl Entry {
     // The entry that a kind and two fields ask for, where `entered` have been entered.
     pub(crate) fn asked_for(
@@ -23,15 +50,15 @@ impl Entry {
     ) -> Result<Entry, Refusal>
         ensures { result ≡ asked entered kind left right }
     {
-        let left_entered = (left as usize) < entered;
-        match kind {
-            0 if left == 0 && right == 0 => Ok(Entry::False),
-            1 if left <= 31 && right == 0 => Ok(Entry::Atom(left as u8)),
-            2 if left_entered && (right as usize) < entered => Ok(Entry::Implies(left, right)),
-            3 if left_entered && right == 0 => Ok(Entry::Next(left)),
-            4 if left_entered && right == 0 => Ok(Entry::Always(left)),
-            0..=4 => Err(Refusal::BadField),
-            _ => Err(Refusal::UnknownKind),
+        let left_entered = usize::from(left) < entered;
+        let right_entered = usize::from(right) < entered;
+        match Kind::try_from(kind)? {
+            Kind::False if left == 0 && right == 0 => Ok(Entry::False),
+            Kind::Atom if left <= 31 && right == 0 => Ok(Entry::Atom(left as u8)),
+            Kind::Implies if left_entered && right_entered => Ok(Entry::Implies(left, right)),
+            Kind::Next if left_entered && right == 0 => Ok(Entry::Next(left)),
+            Kind::Always if left_entered && right == 0 => Ok(Entry::Always(left)),
+            _ => Err(Refusal::BadField),
         }
     }
 }

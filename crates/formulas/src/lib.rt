@@ -7,3 +7,4 @@ mod table;
 
 pub use entry::Entry;
 pub use list::FormulaList;
+pub use table::Table;

@@ -1,60 +1,72 @@
-// A plain table of entries, in memory that is set aside once.
-ghost use Rattle.std.specs.Prelude.{◌≡◌, ◌+◌, ◌<◌, ◌≤◌, [], ◌∷◌, ◌++◌, IfOk, vec_len, vec_capacity};
+// A list in which nothing stands twice, in memory that is set aside once.
+ghost use Rattle.std.specs.Prelude.{◌≡◌, ◌<◌, [], IfOk, IfSome};
 ghost use Rattle.std.specs.List.{slice_get};
-ghost use Rattle.formulas.specs.Adding.{place};
-ghost use Rattle.formulas.specs.Entries.{alike};
+ghost use Rattle.formulas.specs.Adding.{place, number_of, add_after};
 
-use crate::entry::Entry;
 use std::alloc::{AllocError, Global};
+use std::marker::Model;
 
-// The most entries that a table holds.
-pub(crate) const MOST: usize = 1024;
-
+// A table of at most `MOST` items. Each is found by its number, which it keeps.
 #[derive(Drop)]
-pub(crate) struct Table {
-    entries: Vec<Entry>,
+pub struct Table<T, const MOST: u16> {
+    items: Vec<T>,
 }
 
-impl Table {
-    pub(crate) fn new(heap: Global) -> Result<Table, AllocError>
-        ensures { IfOk result (λ t. (t.entries.items ≡ []) × (vec_len t.entries ≡ 0) × (1024 ≤ vec_capacity t.entries)) }
+// Clauses see the items, by number.
+impl<T, const MOST: u16> Model for Table<T, MOST> {
+    ghost use Rattle.std.specs.Prelude.{◌≤◌, List, vec_items, vec_len, vec_capacity};
+
+    ghost Value = { List T };
+
+    ghost view = { λ t. vec_items t.items };
+
+    ghost invariant = { λ t. (vec_len t.items ≤ MOST) × (MOST ≤ vec_capacity t.items) };
+}
+
+impl<T: Copy + PartialEq, const MOST: u16> Table<T, MOST> {
+    // An empty table, with memory for all that it will ever hold.
+    pub fn new(heap: Global) -> Result<Table<T, MOST>, AllocError>
+        ensures { IfOk result (λ t. t ≡ []) }
     {
         Ok(Table {
-            entries: Vec::with_capacity(heap, MOST)?,
+            items: Vec::with_capacity(heap, usize::from(MOST))?,
         })
     }
 
-    pub(crate) fn len(&self) -> usize
-        ensures { result ≡ vec_len self.now.entries }
+    pub fn as_slice(&self) -> &[T]
+        ensures { result.now ≡ self.now }
     {
-        self.entries.len()
+        self.items.as_slice()
     }
 
-    pub(crate) fn get(&self, number: u16) -> Option<Entry>
-        ensures { result ≡ slice_get self.now.entries.items number }
+    // The item with a number.
+    pub fn get(&self, number: u16) -> Option<T>
+        ensures { result ≡ slice_get self.now number }
     {
-        self.entries.get(number as usize).copied()
+        self.items.get(usize::from(number)).copied()
     }
 
-    // The number of the first entry that is like this one.
-    pub(crate) fn find(&self, entry: Entry) -> Option<u16>
-        requires { vec_len self.now.entries ≤ 1024 }
-        ensures { result ≡ place alike self.now.entries.items entry }
+    // The number of the first item that equals this one.
+    fn find(&self, item: T) -> Option<usize>
+        ensures number { result ≡ place T.eq self.now item }
+        ensures within { IfSome result (λ n. n < MOST) }
     {
-        for (number, old) in self.entries.iter().enumerate() {
-            if *old == entry {
-                return Some(number as u16);
-            }
+        self.items.iter().position(|old| *old == item)
+    }
+
+    // The number of the first item that equals this one, which is added if there is none; or none where the table is full.
+    pub fn enter(&mut self, item: T) -> Option<u16>
+        ensures number { result ≡ number_of MOST self.old (place T.eq self.old item) }
+        ensures after { self.new ≡ add_after MOST self.old item (place T.eq self.old item) }
+    {
+        if let Some(old) = self.find(item) {
+            return Some(old as u16);
         }
-        None
-    }
-
-    pub(crate) fn add(&mut self, entry: Entry)
-        requires { vec_len self.old.entries < vec_capacity self.old.entries }
-        ensures items { self.new.entries.items ≡ self.old.entries.items ++ entry ∷ [] }
-        ensures len { vec_len self.new.entries ≡ vec_len self.old.entries + 1 }
-        ensures capacity { vec_capacity self.new.entries ≡ vec_capacity self.old.entries }
-    {
-        self.entries.push_reserved(entry);
+        let number = self.items.len() as u16;
+        if number >= MOST {
+            return None;
+        }
+        self.items.push_reserved(item);
+        Some(number)
     }
 }

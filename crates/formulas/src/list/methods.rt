@@ -7,7 +7,7 @@ ghost use Rattle.formulas.specs.Listed.{entries_of, formulas_of};
 
 use crate::entry::Entry;
 use crate::list::FormulaList;
-use crate::table::{MOST, Table};
+use crate::table::Table;
 use refusals::Refusal;
 use std::alloc::{AllocError, Global};
 
@@ -21,10 +21,17 @@ impl FormulaList {
         })
     }
 
+    // The entries, by number.
+    pub fn entries(&self) -> &[Entry]
+        ensures { result.now ≡ entries_of self.now }
+    {
+        self.table.as_slice()
+    }
+
     pub fn len(&self) -> usize
         ensures { result ≡ length (formulas_of self.now) }
     {
-        self.table.len()
+        self.entries().len()
     }
 
     // The entry with a number.
@@ -41,15 +48,7 @@ impl FormulaList {
         ensures after { formulas_of self.new ≡ form_after (formulas_of self.old) kind left right }
         ensures distinct { Distinct (formulas_of self.new) }
     {
-        let number = self.table.len();
-        let entry = Entry::asked_for(number, kind, left, right)?;
-        if let Some(old) = self.table.find(entry) {
-            return Ok(old);
-        }
-        if number >= MOST {
-            return Err(Refusal::FormulasFull);
-        }
-        self.table.add(entry);
-        Ok(number as u16)
+        let entry = Entry::asked_for(self.len(), kind, left, right)?;
+        self.table.enter(entry).ok_or(Refusal::FormulasFull)
     }
 }

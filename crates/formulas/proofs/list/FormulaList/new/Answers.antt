@@ -5,4 +5,4 @@ use Rattle.formulas.proofs.list.FormulaList.new.Goals as goal
 
 pub returns : goal.returns
 unfolding decoded
-returns c = ap decoded c.in_ok-new.ensures.0
+returns c = ap decoded c.in_ok-new.ensures

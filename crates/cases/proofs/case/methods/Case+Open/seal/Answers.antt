@@ -1,0 +1,8 @@
+-- The sealed case has the open one's formulas and assumptions.
+use Rattle.std.proofs.Common.{refl}
+use Rattle.cases.specs.Model.{modelled}
+use Rattle.cases.proofs.case.methods.Case+Open.seal.Goals as goal
+
+pub returns : goal.returns
+unfolding modelled
+returns c = refl
