@@ -1,8 +1,6 @@
 // The listing of a case: its counts, and how the reading of its file ended.
 #![tactic(auto)]
 
-mod adding;
-mod digits;
 mod ending;
 mod line;
 mod lines;

@@ -5,7 +5,7 @@ ghost use Rattle.listing.specs.Written.{listing_number};
 #[derive(Clone, Copy, PartialEq, Eq, Debug)]
 pub enum ListingRefusal {
     // the buffer is shorter than the listing
-    BufferTooShort,
+    BufferTooShort = 27,
 }
 
 impl ListingRefusal {
@@ -13,8 +13,6 @@ impl ListingRefusal {
     pub fn number(self) -> u8
         ensures { result ≡ listing_number self }
     {
-        match self {
-            ListingRefusal::BufferTooShort => 27,
-        }
+        self as u8
     }
 }

@@ -15,6 +15,7 @@ pub const LISTING_MOST: usize = 256;
 
 // Writes the listing to the front of a buffer, and answers its length. Each line is made and measured before the
 // first is copied, so that a buffer which is too short stays as it is.
+#[tactic(auto, using(crate::proofs::Room::always_room))]
 pub fn write_listing(
     case: &SealedCase,
     ending: Ending,
@@ -26,10 +27,12 @@ pub fn write_listing(
 {
     let first = counts_line(case.counts());
     let last = ending_line(ending);
-    if first.len() + last.len() > buffer.len() {
+    let (first, last) = (first.as_slice(), last.as_slice());
+    let (at, end) = (first.len(), first.len() + last.len());
+    if end > buffer.len() {
         return Err(ListingRefusal::BufferTooShort);
     }
-    let at = first.copy_to(buffer, 0);
-    let end = last.copy_to(buffer, at);
+    buffer[..at].copy_from_slice(first);
+    buffer[at..end].copy_from_slice(last);
     Ok(end)
 }

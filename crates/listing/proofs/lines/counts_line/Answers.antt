@@ -5,11 +5,4 @@ use Rattle.listing.proofs.lines.counts_line.Goals as goal
 pub returns : goal.returns
 unfolding line_of_counts
 returns c =
-    simp (
-      c.end.ensures,
-      c.add_field-4.ensures.text,
-      c.add_field-3.ensures.text,
-      c.add_field-2.ensures.text,
-      c.add_field.ensures.text,
-      c.new-line.ensures.text,
-    )
+    simp (c.end.ensures, c.add_field-4.ensures.text, c.add_field-3.ensures.text, c.add_field-2.ensures.text, c.add_field.ensures.text, c.new-line.ensures)

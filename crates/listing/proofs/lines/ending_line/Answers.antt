@@ -7,7 +7,7 @@ pub returns : goal.returns
 unfolding line_of_ending
 returns c =
     elim c.match-ending.branch [
-      | in-Read w ↦ simp (c.end.ensures, w.line-is, w.in-Read.is, w.add_field.ensures.text, c.new-line.ensures.text)
+      | in-Read w ↦ simp (c.end.ensures, w.line-is, w.in-Read.is, w.add_field.ensures.text, c.new-line.ensures)
       | in-Refused w ↦
           simp (
             c.end.ensures,
@@ -15,10 +15,12 @@ returns c =
             w.in-Refused.is,
             w.add_field-in-Refused-3.ensures.text,
             w.add_field-in-Refused-2.ensures.text,
+            w.from-in-Refused.ensures,
             w.number.ensures,
             w.add_field-in-Refused.ensures.text,
+            w.from.ensures,
             w.layer.ensures,
-            c.new-line.ensures.text,
+            c.new-line.ensures,
           )
-      | in-TooLong w ↦ simp (c.end.ensures, w.line-is, w.in-TooLong.is, w.add.ensures.text, c.new-line.ensures.text)
+      | in-TooLong w ↦ simp (c.end.ensures, w.line-is, w.in-TooLong.is, w.add.ensures, c.new-line.ensures)
     ]
