@@ -1,14 +1,14 @@
 -- What a file comes to, by its length and by what its front answered.
-use Rattle.std.proofs.Common.{◌≡◌, ℕ, ◌<◌, ◌≤◌, leb, List, length, Result, sym, ◌∙◌}
+use Rattle.std.proofs.Common.{◌≡◌, ℕ, ◌<◌, ◌≤◌, leb, List, length, Err, Result, sym, ◌∙◌}
 use Rattle.std.proofs.lemmas.Bool.{cond-true, cond-false, le-leb, lt-leb}
 use Rattle.cases.specs.Case.{Case}
 use Rattle.files.specs.declared.fault.Fault.{Fault}
 use Rattle.files.specs.Reading.{front}
-use Rattle.listing.specs.declared.ending.Ending.TheVariants.{TooLong}
+use Rattle.listing.specs.declared.unread.Unread.TheVariants.{TooLong}
 use Rattle.checker.specs.Checked.{from_front, checked}
 
 module _ (c : Case) (bytes : List ℕ) where
-  pub checked_long : 16384 < length bytes → record { case = c; ending = TooLong } ≡ checked c bytes
+  pub checked_long : 16384 < length bytes → record { case = c; ending = Err TooLong } ≡ checked c bytes
   unfolding checked
   checked_long long = sym (cond-false (leb (length bytes) 16384) _ _ (lt-leb (length bytes) 16384 long))
 

@@ -8,7 +8,7 @@ use Rattle.cases.proofs.Histories.{limits_kept}
 use Rattle.files.specs.declared.fault.Fault.{Fault}
 use Rattle.files.specs.Reading.{front, body}
 use Rattle.files.proofs.Extents.{FrontWithin, BodyWithin, front_within, body_within}
-use Rattle.listing.specs.declared.ending.Ending.TheVariants.{TooLong}
+use Rattle.listing.specs.declared.unread.Unread.TheVariants.{TooLong}
 use Rattle.listing.specs.Room.{Fits64}
 use Rattle.listing.proofs.Room.{always_room}
 use Rattle.checker.specs.Checked.{Checked, ended, from_front, checked}
@@ -27,7 +27,7 @@ from_front_fits bytes small (Err f) c within = omega arith
 checked_fits : (c : Case) (bytes : List ℕ) → Fits64 (checked c bytes).ending
 unfolding checked
 checked_fits c bytes =
-    cond_both (leb (length bytes) 16384) _ (record { case = c; ending = TooLong }) (λ (x : Checked). Fits64 x.ending)
+    cond_both (leb (length bytes) 16384) _ (record { case = c; ending = Err TooLong }) (λ (x : Checked). Fits64 x.ending)
     (λ small. from_front_fits bytes (leb-true (length bytes) 16384 small) (front c bytes).answer (front c bytes).after (front_within c bytes))
     (λ _. tt)
 

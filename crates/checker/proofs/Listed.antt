@@ -7,7 +7,7 @@ use Rattle.files.specs.declared.fault.Fault.{Fault}
 use Rattle.files.specs.Reading.{Reading, front, body}
 use Rattle.files.proofs.CallsMade.{front_makes_calls, body_makes_calls}
 use Rattle.files.proofs.ReadBack.{records_read_back}
-use Rattle.listing.specs.declared.ending.Ending.TheVariants.{TooLong}
+use Rattle.listing.specs.declared.unread.Unread.TheVariants.{TooLong}
 use Rattle.checker.specs.Checked.{Checked, from_front, checked}
 use Rattle.checker.specs.Promises.{ListedAfterHistory, Promises}
 
@@ -42,7 +42,7 @@ from_front_ends bytes (Err f) c e = sealed_ends c e
 pub listed_after_history : ListedAfterHistory
 unfolding checked
 listed_after_history h bytes =
-    cond_both (leb (length bytes) 16384) _ (record { case = after h; ending = TooLong }) (λ (x : Checked). Ends sealed_stage x.case)
+    cond_both (leb (length bytes) 16384) _ (record { case = after h; ending = Err TooLong }) (λ (x : Checked). Ends sealed_stage x.case)
     (λ _. from_front_ends bytes (front (after h) bytes).answer (front (after h) bytes).after (led open_stage (front_makes_calls (after h) bytes) (h, refl)))
     (λ _. sealed_ends (after h) (h, refl))
 

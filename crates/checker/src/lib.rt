@@ -1,16 +1,17 @@
 // From a file's bytes to its listing: the front, the seal, the body, the listing.
 #![tactic(auto)]
 
-ghost use Rattle.std.specs.Prelude.{◌≡◌, length};
+ghost use Rattle.std.specs.Prelude.{◌≡◌, IfOk};
+ghost use Rattle.cases.specs.Case.{empty};
 ghost use Rattle.cases.specs.Model.{opened, sealed};
-ghost use Rattle.checker.specs.Checked.{checked, ended, file_listing};
+ghost use Rattle.checker.specs.Checked.{checked, from_front, file_listing};
 ghost use Rattle.checker.specs.Promises.{ListingsFit, Promises};
-ghost use Rattle.files.specs.Reading.{body};
 ghost use Rattle.listing.specs.Written.{written_answer, written_after};
 
 use cases::{OpenCase, SealedCase};
-use files::{read_body, read_front};
-use listing::{Ending, LISTING_MOST, ListingRefusal, write_listing};
+use files::{Fault, read_body, read_front};
+use listing::{LISTING_MOST, ListingRefusal, Unread, write_listing};
+use std::alloc::{AllocError, Global};
 
 // The most bytes that a file has.
 pub const FILE_MOST: usize = 16_384;
@@ -26,30 +27,43 @@ pub fn list_file(case: OpenCase, file: &[u8], buffer: &mut [u8]) -> Result<usize
     write_listing(&case, ending, buffer)
 }
 
-// Reads a file into a case, which is sealed in any case. A refused front has no body.
-fn read_file(mut case: OpenCase, file: &[u8]) -> (SealedCase, Ending)
+// The listing of a file that is read into a new case.
+pub fn listing_of(heap: Global, file: &[u8]) -> Result<Vec<u8>, AllocError>
+    ensures { IfOk result (λ text. text.items ≡ file_listing empty file.now) }
+{
+    let mut buffer = vec![in heap; 0; LISTING_MOST]?;
+    let case = OpenCase::new(heap)?;
+    let Ok(length) = list_file(case, file, &mut buffer) else {
+        unreachable!()
+    };
+    buffer.truncate(length);
+    Ok(buffer)
+}
+
+// Reads a file into a case, which is sealed in any case, and answers the file's length beside it.
+fn read_file(mut case: OpenCase, file: &[u8]) -> (SealedCase, Result<usize, Unread>)
     ensures case { sealed result.0 ≡ (checked (opened case) file.now).case }
     ensures ending { result.1 ≡ (checked (opened case) file.now).ending }
 {
     if file.len() > FILE_MOST {
-        return (case.seal(), Ending::TooLong);
+        return (case.seal(), Err(Unread::TooLong));
     }
     let front = read_front(&mut case, file);
     let mut sealed = case.seal();
-    let ending = match front {
-        Ok(behind) => body_ending(&mut sealed, file, behind),
-        Err(fault) => Ending::Refused(fault),
-    };
+    let ending = read_behind(front, &mut sealed, file);
     (sealed, ending)
 }
 
-// Reads the body, and says how that ended.
-fn body_ending(case: &mut SealedCase, file: &[u8], start: usize) -> Ending
-    ensures ending { result ≡ ended (length file.now) (body (sealed case.old) start file.now).answer }
-    ensures after { sealed case.new ≡ (body (sealed case.old) start file.now).after }
+// Reads the body behind a front. A refused front has none.
+fn read_behind(
+    front: Result<usize, Fault>,
+    case: &mut SealedCase,
+    file: &[u8],
+) -> Result<usize, Unread>
+    ensures ending { result ≡ (from_front file.now front (sealed case.old)).ending }
+    ensures after { sealed case.new ≡ (from_front file.now front (sealed case.old)).case }
 {
-    match read_body(case, file, start) {
-        Ok(()) => Ending::Read(file.len()),
-        Err(fault) => Ending::Refused(fault),
-    }
+    let start = front?;
+    read_body(case, file, start)?;
+    Ok(file.len())
 }

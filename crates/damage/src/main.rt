@@ -2,10 +2,7 @@
 // The file `expected` beside src/ is a plain reading of the format that stdout was made by.
 #![tactic(auto)]
 
-use anyhow::anyhow;
-use cases::OpenCase;
-use checker::list_file;
-use listing::LISTING_MOST;
+use checker::listing_of;
 use std::io::{Read, Write};
 
 fn main(rt: HostRuntime) -> anyhow::Result<()> {
@@ -16,14 +13,15 @@ fn main(rt: HostRuntime) -> anyhow::Result<()> {
 }
 
 fn cut(rt: &HostRuntime, file: &[u8]) -> anyhow::Result<()> {
-    for length in 0..file.len() + 1 {
+    for length in 0..=file.len() {
         println!(rt; "cut at {length}")?;
-        list(rt, &file[0..length])?;
+        list(rt, &file[..length])?;
     }
     Ok(())
 }
 
 fn change(rt: &HostRuntime, file: &mut [u8]) -> anyhow::Result<()> {
+    // By index: each turn changes one byte, lists the whole file and puts the byte back.
     for at in 0..file.len() {
         for mask in [1, 128, 255] {
             println!(rt; "byte {at} changed by {mask}")?;
@@ -36,12 +34,7 @@ fn change(rt: &HostRuntime, file: &mut [u8]) -> anyhow::Result<()> {
 }
 
 fn list(rt: &HostRuntime, file: &[u8]) -> anyhow::Result<()> {
-    let heap = rt.alloc();
-    let mut buffer = vec![in heap; 0u8; LISTING_MOST]?;
-    match list_file(OpenCase::new(heap)?, file, &mut buffer) {
-        Ok(length) => buffer.truncate(length),
-        Err(_) => return Err(anyhow!("the listing has no room")),
-    }
-    rt.stdout().write_all(&buffer)?;
+    let listing = listing_of(rt.alloc(), file)?;
+    rt.stdout().write_all(&listing)?;
     Ok(())
 }

@@ -1,5 +1,5 @@
 -- A listing of a case within its limits has at most 256 bytes.
-use Rattle.std.proofs.Common.{◌≡◌, ◌^◌, ◌<◌, ◌≤◌, length, ap, arith, lit<, length-append}
+use Rattle.std.proofs.Common.{◌≡◌, ℕ, ◌^◌, ◌<◌, ◌≤◌, length, Ok, Err, Result, ap, arith, lit<, length-append}
 use Rattle.refusals.specs.declared.Refusal.TheVariants.{UnknownKind, BadField, FormulasFull, NotEntered, AssumptionsFull}
 use Rattle.cases.specs.declared.counts.Counts.{Counts}
 use Rattle.cases.specs.Reads.{counts_of}
@@ -8,8 +8,8 @@ use Rattle.files.specs.declared.fault.RecordFault.TheVariants.{ShortHead, Payloa
 use Rattle.files.specs.declared.fault.PayloadFault.TheVariants.{KindNotAllowed, WrongLength}
 use Rattle.files.specs.declared.fault.Cause.{Cause}
 use Rattle.files.specs.declared.fault.Cause.TheVariants.{Record, Payload, Case as Called}
-use Rattle.listing.specs.declared.ending.Ending.{Ending}
-use Rattle.listing.specs.declared.ending.Ending.TheVariants.{Read, Refused, TooLong}
+use Rattle.listing.specs.declared.unread.Unread.{Unread}
+use Rattle.listing.specs.declared.unread.Unread.TheVariants.{TooLong, Refused}
 use Rattle.listing.specs.Listing.{line_of_counts, line_of_ending}
 use Rattle.listing.specs.Room.{Fits64, AlwaysRoom}
 use Rattle.listing.proofs.Spelling.{decimal_short}
@@ -41,15 +41,15 @@ counts_short n f a l r =
     let refutations = decimal_short n.refutations r in
     simp length-append (omega arith)
 
-ending_short : (e : Ending) → Fits64 e → length (line_of_ending e) ≤ 128
+ending_short : (e : Result ℕ Unread) → Fits64 e → length (line_of_ending e) ≤ 128
 unfolding line_of_ending
-ending_short (Read n) fits = let size = decimal_short n fits in simp length-append (omega arith)
-ending_short (Refused f) fits =
+ending_short (Ok n) fits = let size = decimal_short n fits in simp length-append (omega arith)
+ending_short (Err (Refused f)) fits =
     let layer = decimal_short (layer_of f.cause) (layer_small f.cause) in
     let number = decimal_short (cause_number f.cause) (number_small f.cause) in
     let offset = decimal_short f.offset fits in
     simp length-append (omega arith)
-ending_short TooLong fits = omega arith
+ending_short (Err TooLong) fits = omega arith
 
 pub always_room : AlwaysRoom 256
 always_room c e within fits =

@@ -1,17 +1,17 @@
 -- How long a listing can be.
-use Rattle.std.specs.Prelude.{ℕ, ◌^◌, ◌<◌, ◌≤◌, length}
+use Rattle.std.specs.Prelude.{ℕ, ◌^◌, ◌<◌, ◌≤◌, length, Ok, Err, Result}
 use Rattle.cases.specs.Case.{Case}
 use Rattle.cases.specs.Limits.{Limits}
-use Rattle.listing.specs.declared.ending.Ending.{Ending}
-use Rattle.listing.specs.declared.ending.Ending.TheVariants.{Read, Refused, TooLong}
+use Rattle.listing.specs.declared.unread.Unread.{Unread}
+use Rattle.listing.specs.declared.unread.Unread.TheVariants.{TooLong, Refused}
 use Rattle.listing.specs.Listing.{listing}
 
 -- the length or the offset that an ending tells is a number of 64 bits
-abbrev pub Fits64 : Ending → Type 0
-Fits64 (Read n) = n < 2 ^ 64
-Fits64 (Refused f) = f.offset < 2 ^ 64
-Fits64 TooLong = Unit {0}
+abbrev pub Fits64 : Result ℕ Unread → Type 0
+Fits64 (Ok n) = n < 2 ^ 64
+Fits64 (Err (Refused f)) = f.offset < 2 ^ 64
+Fits64 (Err TooLong) = Unit {0}
 
 -- so many bytes have room for every listing of a case that keeps to its limits
 abbrev pub AlwaysRoom : ℕ → Type 0
-AlwaysRoom most = (c : Case) (e : Ending) → Limits c → Fits64 e → length (listing c e) ≤ most
+AlwaysRoom most = (c : Case) (e : Result ℕ Unread) → Limits c → Fits64 e → length (listing c e) ≤ most

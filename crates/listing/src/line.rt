@@ -52,7 +52,8 @@ impl Line {
         requires { length self.old + length (decimal number) ≤ LINE_MOST }
         ensures { self.new ≡ self.old ++ decimal number }
     {
-        if number >= 10 {
+        let is_longer = number >= 10;
+        if is_longer {
             self.add_number(number / 10);
         }
         self.add(&[b'0' + (number % 10) as u8]);

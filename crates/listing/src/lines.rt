@@ -1,9 +1,9 @@
 // The lines of a listing.
-ghost use Rattle.std.specs.Prelude.{◌≡◌};
+ghost use Rattle.std.specs.Prelude.{◌≡◌, Ok, Err};
 ghost use Rattle.listing.specs.Listing.{line_of_counts, line_of_ending};
 
-use crate::ending::Ending;
 use crate::line::Line;
+use crate::unread::Unread;
 use cases::Counts;
 
 // How many of each a case has.
@@ -20,18 +20,37 @@ pub(crate) fn counts_line(counts: Counts) -> Line
 }
 
 // How the reading of a file ended.
-pub(crate) fn ending_line(ending: Ending) -> Line
+pub(crate) fn ending_line(ending: Result<usize, Unread>) -> Line
     ensures { result ≡ line_of_ending ending }
 {
-    let mut line = Line::new();
     match ending {
-        Ending::Read(length) => line.add_field(b"read ", length),
-        Ending::Refused(fault) => {
+        Ok(length) => read_line(length),
+        Err(unread) => unread_line(unread),
+    }
+}
+
+// A file that was read to its end has a length.
+fn read_line(length: usize) -> Line
+    ensures { result ≡ line_of_ending (Ok length) }
+{
+    let mut line = Line::new();
+    line.add_field(b"read ", length);
+    line.end();
+    line
+}
+
+// Any other was refused at an offset, or is too long.
+fn unread_line(unread: Unread) -> Line
+    ensures { result ≡ line_of_ending (Err unread) }
+{
+    let mut line = Line::new();
+    match unread {
+        Unread::TooLong => line.add(b"too long"),
+        Unread::Refused(fault) => {
             line.add_field(b"refused ", usize::from(fault.layer()));
             line.add_field(b" ", usize::from(fault.number()));
             line.add_field(b" ", fault.offset);
         }
-        Ending::TooLong => line.add(b"too long"),
     }
     line.end();
     line

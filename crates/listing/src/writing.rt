@@ -5,9 +5,9 @@ ghost use Rattle.listing.specs.Listing.{listing};
 ghost use Rattle.listing.specs.Room.{AlwaysRoom};
 ghost use Rattle.listing.specs.Written.{written_answer, written_after};
 
-use crate::ending::Ending;
 use crate::lines::{counts_line, ending_line};
 use crate::refusal::ListingRefusal;
+use crate::unread::Unread;
 use cases::SealedCase;
 
 // A buffer of so many bytes is never too short.
@@ -18,7 +18,7 @@ pub const LISTING_MOST: usize = 256;
 #[tactic(auto, using(crate::proofs::Room::always_room))]
 pub fn write_listing(
     case: &SealedCase,
-    ending: Ending,
+    ending: Result<usize, Unread>,
     buffer: &mut [u8],
 ) -> Result<usize, ListingRefusal>
     ensures answer { result ≡ written_answer (listing (sealed case.now) ending) buffer.old }

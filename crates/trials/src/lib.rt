@@ -9,9 +9,9 @@ mod sources;
 #[cfg(test)]
 mod tests {
     use cases::OpenCase;
-    use checker::list_file;
+    use checker::{list_file, listing_of};
     use files::{Cause, Fault, RecordFault, read_body};
-    use formulas::Entry;
+    use formulas::{Entry, Table};
     use listing::ListingRefusal;
     use refusals::Refusal;
     use std::test::Fail;
@@ -131,6 +131,31 @@ mod tests {
             Err(ListingRefusal::BufferTooShort)
         );
         assert!(rt; short == [7; 61]);
+        Ok(())
+    }
+
+    // The listing of no input, in memory of its own.
+    #[test]
+    fn listings_are_made(rt: HostRuntime) -> Result<(), Fail> {
+        let listing = listing_of(rt.alloc(), b"")?;
+        assert!(rt;
+            listing.as_slice()
+                == b"formulas 0 assumptions 0 lines 0 refutations 0\nrefused 1 25 0\n".as_slice()
+        );
+        Ok(())
+    }
+
+    // A table takes each item once, and no more than it has room for.
+    #[test]
+    fn tables_take_items_once(rt: HostRuntime) -> Result<(), Fail> {
+        let mut table: Table<u16, 2> = Table::new(rt.alloc())?;
+        assert_eq!(rt; table.enter(7), Some(0));
+        assert_eq!(rt; table.enter(8), Some(1));
+        assert_eq!(rt; table.enter(7), Some(0));
+        assert_eq!(rt; table.enter(9), None);
+        assert_eq!(rt; table.get(1), Some(8));
+        assert_eq!(rt; table.get(2), None);
+        assert!(rt; table.as_slice() == [7, 8].as_slice());
         Ok(())
     }
 }
