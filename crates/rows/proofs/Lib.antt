@@ -1,4 +1,3 @@
 pub mod Bits
 pub mod Rows
 mod Steps
-pub mod Shapes

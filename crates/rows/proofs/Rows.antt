@@ -1,11 +1,11 @@
 -- Rows by their bits: what words a row has, what a row of a function says, and that rows with the same bits are equal.
 use Rattle.std.proofs.Common.{◌≡◌, ℕ, zero, suc, ◌+◌, ◌-◌, ◌*◌, ◌/◌, ◌%◌, ◌^◌, ◌<◌, ◌≤◌, Bool, true, false, not, ◌&&◌, ◌||◌, eqb, ltb, List, [], ◌∷◌, length, get_or, set, sym, refl, ap, ◌∙◌, subst, ap₂, ⊎_elim, pow-suc, arith}
-use lib.Bits.{bit_and, bit_or, and_lt, or_lt, or_zero_r}
+use lib.Bits.{bit_and, bit_or, and_lt, or_lt}
 use lib.Count.{count_leading_zeros, leading_length}
 use Rattle.std.proofs.lemmas.List.{get_or_past, length-set, get_or-set_same, get_or-set_other}
 use Rattle.std.proofs.lemmas.Bool.{cases_lt, cases_eq, lt-leb, le-leb, and_right, and_left, and_from, ne_eqb, cases_Bool, both_ways}
 use Rattle.std.proofs.lemmas.Bool.Decides.{nat_tests}
-use Rattle.rows.specs.Row.{testBit, pack, bit, row_of, all_from, Ends}
+use Rattle.rows.specs.Row.{testBit, low_ones, bit, row_of, all_from, Ends}
 use Rattle.rows.proofs.Bits.{bit_zero, bit_half, bit_shl, bit_above, bit_top, bit_one, bit_pack, testBit_and, testBit_or, bit_not, pack_lt, is_pack}
 
 -- the word w, as the word k of a row, says what f says
@@ -34,6 +34,11 @@ is_row_list (a ∷ b ∷ c ∷ []) f n says = absurd (omega arith)
 is_row_list (a ∷ b ∷ c ∷ d ∷ []) f n says = is_row (says 0 (omega arith)) (says 1 (omega arith)) (says 2 (omega arith)) (says 3 (omega arith))
 is_row_list (a ∷ b ∷ c ∷ d ∷ e ∷ row) f n says = absurd (omega arith)
 
+-- the same of words that were made one by one
+pub made_row : {f : ℕ → Bool} (row : List ℕ) (word : ℕ → ℕ) → length row ≡ 4 → ((k : ℕ) → k < 4 → get_or row k 0 ≡ word k) → ((k : ℕ) → k < 4 → Says (word k) k f)
+    → row ≡ row_of f
+made_row {f} row word n is says = is_row_list row f n (λ k h. subst (λ w. Says w k f) (sym (is k h)) (says k h))
+
 -- ---- what a row says
 
 pub bit_word : (row : List ℕ) (k i : ℕ) → i < 64 → bit row (64 * k + i) ≡ testBit (get_or row k 0) i
@@ -42,10 +47,6 @@ bit_word row k i l =
     let q : (64 * k + i) / 64 ≡ k = omega arith in
     let r : (64 * k + i) % 64 ≡ i = omega arith in
     ap₂ (λ x y. testBit (get_or row x 0) y) q r
-
--- its word k says what it says itself
-pub word_says : (row : List ℕ) (k : ℕ) → get_or row k 0 < 2 ^ 64 → Says (get_or row k 0) k (bit row)
-word_says row k h = record { fits = h; at = λ i l. sym (bit_word row k i l) }
 
 -- the word k of f's row
 pub row_of_says : (f : ℕ → Bool) (k : ℕ) → k < 4 → Says (get_or (row_of f) k 0) k f
@@ -85,34 +86,51 @@ row_of_same f g same =
 
 -- ---- the operations on words
 
-pub says_and : {u v k : ℕ} {f g : ℕ → Bool} → Says u k f → Says v k g → Says (bit_and u v) k (λ i. f i && g i)
-says_and {u} {v} p q =
-    record { fits = and_lt 64 u v p.fits q.fits; at = λ i h. testBit_and u v i ∙ ap₂ (λ x y. x && y) (p.at i h) (q.at i h) }
+-- an operator on words acts on each bit alone, as `both` says
+pub record Bitwise (operator : ℕ → ℕ → ℕ) (both : Bool → Bool → Bool) : Type 0 where
+  pub fits : (u v : ℕ) → u < 2 ^ 64 → v < 2 ^ 64 → operator u v < 2 ^ 64
+  pub at : (u v i : ℕ) → v < 2 ^ 64 → i < 64 → testBit (operator u v) i ≡ both (testBit u i) (testBit v i)
 
-pub says_or : {u v k : ℕ} {f g : ℕ → Bool} → Says u k f → Says v k g → Says (bit_or u v) k (λ i. f i || g i)
-says_or {u} {v} p q =
-    record { fits = or_lt 64 u v p.fits q.fits; at = λ i h. testBit_or u v i ∙ ap₂ (λ x y. x || y) (p.at i h) (q.at i h) }
+pub bitwise_and : Bitwise bit_and (λ x y. x && y)
+bitwise_and = record { fits = λ u v. and_lt 64 u v; at = λ u v i p h. testBit_and u v i }
 
-pub says_not : {u k : ℕ} {f : ℕ → Bool} → Says u k f → Says ((2 ^ 64 - 1) - u) k (λ i. not (f i))
-says_not {u} p = record { fits = omega arith; at = λ i h. bit_not 64 u i p.fits h ∙ ap not (p.at i h) }
+pub bitwise_or : Bitwise bit_or (λ x y. x || y)
+bitwise_or = record { fits = λ u v. or_lt 64 u v; at = λ u v i p h. testBit_or u v i }
 
--- the word k of the row that is true below n has its m lowest bits set
-pub says_ones : {w : ℕ} (k n m : ℕ) → m ≡ n - 64 * k → w ≡ pack 64 (λ i. ltb i m) → Says w k (λ i. ltb i n)
-says_ones {w} k n m e is =
+pub bitwise_minus : Bitwise (λ u v. bit_and u ((2 ^ 64 - 1) - v)) (λ x y. x && not y)
+bitwise_minus =
     record {
-      fits = omega (arith, pack_lt 64 (λ i. ltb i m));
-      at = λ i h. ap (λ x. testBit x i) is ∙ bit_pack 64 (λ i. ltb i m) i h ∙ below i;
+      fits = λ u v p q. and_lt 64 u ((2 ^ 64 - 1) - v) p (omega arith);
+      at = λ u v i q h. testBit_and u ((2 ^ 64 - 1) - v) i ∙ ap (λ y. testBit u i && y) (bit_not 64 v i q h);
     }
+
+-- a row that such an operator made of two rows, word by word, says of each position what `both` says
+pub combined : {operator : ℕ → ℕ → ℕ} {both : Bool → Bool → Bool} → Bitwise operator both → (a b row : List ℕ)
+    → ((k : ℕ) → k < 4 → get_or a k 0 < 2 ^ 64) → ((k : ℕ) → k < 4 → get_or b k 0 < 2 ^ 64)
+    → length row ≡ 4 → ((k : ℕ) → k < 4 → get_or row k 0 ≡ operator (get_or a k 0) (get_or b k 0)) → row ≡ row_of (λ i. both (bit a i) (bit b i))
+combined {operator} {both} bitwise a b row p q n is =
+    made_row row (λ k. operator (get_or a k 0) (get_or b k 0)) n is
+    (λ k h. record {
+      fits = bitwise.fits (get_or a k 0) (get_or b k 0) (p k h) (q k h);
+      at = λ i l. bitwise.at (get_or a k 0) (get_or b k 0) i (q k h) l ∙ ap₂ both (sym (bit_word a k i l)) (sym (bit_word b k i l));
+    })
+
+-- the word k of the row that is true below n has its lowest bits set
+pub says_ones : (k n : ℕ) → Says (low_ones (n - 64 * k)) k (λ i. ltb i n)
+unfolding low_ones
+says_ones k n =
+    let left : ℕ = n - 64 * k in
+    record { fits = pack_lt 64 (λ i. ltb i left); at = λ i h. bit_pack 64 (λ i. ltb i left) i h ∙ below i }
   where
-    below : (i : ℕ) → ltb i m ≡ ltb (64 * k + i) n
+    below : (i : ℕ) → ltb i (n - 64 * k) ≡ ltb (64 * k + i) n
     below i = grind (arith, nat_tests)
 
--- the row a, moved one position down: its word k takes its top bit from the word above
+-- the row, moved one position down: its word k takes its top bit from the word above, and the last word has none above
 pub says_earlier : (row : List ℕ) (k : ℕ) → get_or row k 0 < 2 ^ 64
-    → Says (bit_or (get_or row k 0 / 2) ((get_or row (suc k) 0 * 2 ^ 63) % 2 ^ 64)) k (λ i. bit row (i + 1))
+    → Says (bit_or (get_or row k 0 / 2) ((get_or row (k + 1) 0 * 2 ^ 63) % 2 ^ 64)) k (λ i. bit row (i + 1))
 says_earlier row k fit =
     let u : ℕ = get_or row k 0 in
-    let v : ℕ = get_or row (suc k) 0 in
+    let v : ℕ = get_or row (k + 1) 0 in
     record {
       fits = or_lt 64 (u / 2) (v * 2 ^ 63 % 2 ^ 64) (omega arith) (omega arith);
       at = λ i h. testBit_or (u / 2) (v * 2 ^ 63 % 2 ^ 64) i
@@ -123,21 +141,13 @@ says_earlier row k fit =
           (λ (l : 63 ≤ i).
           let top : i ≡ 63 = omega arith in
           ap₂ (λ b c. b || (c && testBit v (i - 63))) (bit_above 64 u (suc i) fit (omega arith)) (le-leb 63 i l)
-          ∙ ap (testBit v) (omega arith) ∙ sym (bit_word row (suc k) 0 (omega arith)) ∙ ap (bit row) (omega arith))
+          ∙ ap (testBit v) (omega arith) ∙ sym (bit_word row (k + 1) 0 (omega arith)) ∙ ap (bit row) (omega arith))
           (cases_lt i 63);
     }
   where
     or_false : (b : Bool) → (b || false) ≡ b
     or_false true = refl
     or_false false = refl
-
--- the last word has none above
-pub says_earlier_last : (row : List ℕ) → length row ≡ 4 → get_or row 3 0 < 2 ^ 64 → Says (get_or row 3 0 / 2) 3 (λ i. bit row (i + 1))
-says_earlier_last row n fit =
-    let p = says_earlier row 3 fit in
-    let e : bit_or (get_or row 3 0 / 2) ((get_or row 4 0 * 2 ^ 63) % 2 ^ 64) ≡ get_or row 3 0 / 2
-    = ap (λ x. bit_or (get_or row 3 0 / 2) ((x * 2 ^ 63) % 2 ^ 64)) (get_or_past row 4 0 (omega arith)) ∙ or_zero_r (get_or row 3 0 / 2) in
-    subst (λ w. Says w 3 (λ i. bit row (i + 1))) e p
 
 -- ---- a row with one word written
 
@@ -183,21 +193,15 @@ place_row truth i is h =
 
 -- ---- the last bit of a row
 
-pub none_past : (row : List ℕ) → length row ≡ 4 → (j : ℕ) → 3 < j → get_or row j 0 ≡ 0
-none_past row n j h = get_or_past row j 0 (omega arith)
-
-pub none_above : (row : List ℕ) (k : ℕ) → get_or row (suc k) 0 ≡ 0 → ((j : ℕ) → suc k < j → get_or row j 0 ≡ 0) → (j : ℕ) → k < j → get_or row j 0 ≡ 0
-none_above row k here above j h =
-    ⊎_elim (λ e. ap (λ x. get_or row x 0) e ∙ here) (λ ne. above j (omega (arith, ne))) (cases_eq j (suc k))
-
 top_bit : (w m j : ℕ) → m ≡ suc j → w < 2 ^ m → 2 ^ m ≤ 2 * w + 1 → testBit w j ≡ true
 top_bit w m j e h l =
     let h' : w < 2 ^ suc j = subst (λ x. w < 2 ^ x) e h in
     let l' : 2 ^ suc j ≤ 2 * w + 1 = subst (λ x. 2 ^ x ≤ 2 * w + 1) e l in
     bit_top w j (omega (arith, pow-suc 2 j)) h'
 
-pub ends_in : (row : List ℕ) (k : ℕ) → k < 4 → get_or row k 0 < 2 ^ 64 → (0 < k → 0 < get_or row k 0)
-    → ((j : ℕ) → k < j → get_or row j 0 ≡ 0) → Ends row (64 * suc k - count_leading_zeros 64 (get_or row k 0))
+-- where the word k has a bit and none above it has one, the row ends behind that word's highest
+pub ends_in : (row : List ℕ) (k : ℕ) → k < 4 → get_or row k 0 < 2 ^ 64 → 0 < get_or row k 0 → ((j : ℕ) → k < j → get_or row j 0 ≡ 0)
+    → Ends row (64 * (k + 1) - count_leading_zeros 64 (get_or row k 0))
 unfolding bit
 ends_in row k h fit pos above =
     let w : ℕ = get_or row k 0 in
@@ -217,9 +221,15 @@ ends_in row k h fit pos above =
           (λ (l : m ≤ 0).
           let z : m ≡ 0 = omega arith in
           let none : w < 1 = subst (λ x. w < 2 ^ x) z t.2 in
-          absurd (⊎_elim (λ (q : 0 < k). let p : 0 < w = pos q in omega arith) (λ (q : k ≤ 0). omega (arith, t.1)) (cases_lt 0 k)))
+          absurd (omega arith))
           (cases_lt 0 m);
     }
+
+-- where no word has a bit, the row ends at its start
+pub ends_at_start : (row : List ℕ) → ((j : ℕ) → get_or row j 0 ≡ 0) → Ends row 0
+unfolding bit
+ends_at_start row none =
+    record { fits = omega arith; within = λ i l. ap (λ x. testBit x (i % 64)) (none (i / 64)) ∙ bit_zero (i % 64); last = λ i e. absurd (omega arith) }
 
 -- ---- a stretch of positions
 

@@ -10,6 +10,10 @@ unfoldable pub pack : ℕ → (ℕ → Bool) → ℕ
 pack zero f = 0
 pack (suc n) f = pack n (λ i. f (suc i)) * 2 + cond (f 0) 1 0
 
+-- the word whose n lowest bits are set, or all where it has no more
+unfoldable pub low_ones : ℕ → ℕ
+low_ones n = pack 64 (λ i. nat_lt i n)
+
 -- what a row says of the position i
 unfoldable pub bit : List ℕ → ℕ → Bool
 bit row i = testBit (slice_index row (i / 64)) (i % 64)

@@ -11,24 +11,27 @@ mod words;
 
 pub use lasso::Lasso;
 
-// The truth of one formula at each position.
-pub type Row = [u64; 4];
+// A row has so many words.
+pub const WORDS: usize = 4;
 
-// The row that is nowhere true.
-pub const EMPTY: Row = [0; 4];
+// A word has so many bits.
+pub(crate) const BITS: usize = 64;
 
 // A row has so many positions.
-pub(crate) const POSITIONS: usize = 256;
+pub(crate) const POSITIONS: usize = WORDS * BITS;
+
+// The truth of one formula at each position.
+pub type Row = [u64; WORDS];
+
+// The row that is nowhere true.
+pub const EMPTY: Row = [0; WORDS];
 
 // Whether a row is true at a position. It is not behind its last one.
 pub fn at(row: Row, position: usize) -> bool
     ensures { result ≡ bit row position }
 {
-    if position < POSITIONS {
-        (row[position / 64] >> (position % 64)) & 1 == 1
-    } else {
-        false
-    }
+    let word = row.get(position / BITS).copied().unwrap_or(0);
+    (word >> (position % BITS)) & 1 == 1
 }
 
 // The row that is true at one position more, if `truth` is.

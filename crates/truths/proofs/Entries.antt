@@ -1,8 +1,6 @@
 -- The row of an entry is that of its formula, and the rows grow by one at a time.
-use Rattle.std.proofs.Common.{◌≡◌, ℕ, ◌+◌, ◌*◌, ◌<◌, ◌≤◌, true, ltb, List, [], ◌∷◌, ◌++◌, length, get_or, take, drop, Some, sym, refl, ap, ◌∙◌, subst, ap₂, arith}
-use Rattle.std.specs.List.{slice_get}
+use Rattle.std.proofs.Common.{◌≡◌, ℕ, ◌+◌, ◌*◌, ◌<◌, ◌≤◌, true, ltb, List, [], ◌∷◌, ◌++◌, length, get_or, take, drop, sym, refl, ap, ◌∙◌, subst, ap₂, arith}
 use Rattle.std.proofs.lemmas.List.{append_assoc, append-nil, length_push, length-take-le, get_or-take, take_at, take_more, drop_at, drop-drop}
-use Rattle.std.proofs.lemmas.Option.{slice_get-get_or}
 use Rattle.std.proofs.lemmas.Bool.{and_parts, ltb-true, leb-true}
 use Rattle.logic.specs.Formula.{Formula, falsum}
 use Rattle.logic.specs.Run.{Run}
@@ -11,7 +9,6 @@ use Rattle.formulas.specs.declared.entry.Entry.TheVariants.{False, Atom, Implies
 use Rattle.formulas.specs.Entries.{placed, Lower}
 use Rattle.formulas.specs.Decode.{of_entry, formula_at, decoded}
 use Rattle.formulas.specs.Forming.{numbered}
-use Rattle.formulas.proofs.Members.{some_same, nth_within}
 use Rattle.formulas.proofs.Decoded.{of_entry_same, formula_at_is, decoded_length, decoded_at}
 use Rattle.truths.specs.Along.{truth_row, rows_along, with_rows}
 use Rattle.truths.specs.Steps.{row_at, entry_row}
@@ -48,40 +45,31 @@ with_rows_push r fs A old =
     ∙ ap (λ rows. rows ++ drop (4 * length (fs ++ A ∷ [])) old) (sym (rows_push r fs A))
 
 -- the row of the entry with the number n, where those below it are written
-module _ (r : Run) (long : r.stem + r.loop ≤ 256) (es : List Entry) (low : Lower es) (old : List ℕ) (n : ℕ) (e : Entry) (is : slice_get es n ≡ Some e) where
-  below : n < length es
-  below = nth_within es n is
-
+module _ (r : Run) (long : r.stem + r.loop ≤ 256) (es : List Entry) (low : Lower es) (old : List ℕ) (n : ℕ) (below : n < length es) where
   within : n < length (decoded es)
   within = omega (arith, below, decoded_length es)
 
   part_length : length (take n (decoded es)) ≡ n
   part_length = length-take-le n (decoded es) (omega (arith, within))
 
-  here : get_or es n False ≡ e
-  here = some_same (sym (slice_get-get_or es n False below) ∙ is)
-
-  fine : placed n e ≡ true
-  fine = subst (λ (d : Entry). placed n d ≡ true) here (low n below)
-
-  meant : of_entry (numbered (take n (decoded es))) e ≡ numbered (decoded es) n
+  meant : of_entry (numbered (take n (decoded es))) (get_or es n False) ≡ numbered (decoded es) n
   meant =
-      of_entry_same (numbered (take n (decoded es))) (formula_at es) n e fine
+      of_entry_same (numbered (take n (decoded es))) (formula_at es) n (get_or es n False) (low n below)
       (λ a l. get_or-take n (decoded es) a falsum l ∙ decoded_at es a (omega (arith, below)))
-      ∙ ap (of_entry (formula_at es)) (sym here) ∙ sym (formula_at_is es low n below) ∙ sym (decoded_at es n below)
+      ∙ sym (formula_at_is es low n below) ∙ sym (decoded_at es n below)
 
-  row_is : entry_row r (with_rows r (take n (decoded es)) old) e ≡ truth_row r (numbered (decoded es) n)
+  row_is : entry_row r (with_rows r (take n (decoded es)) old) (get_or es n False) ≡ truth_row r (numbered (decoded es) n)
   row_is =
       entry_folds r (take n (decoded es)) (with_rows r (take n (decoded es)) old)
       (λ f l i h. row_at_says (with_rows r (take n (decoded es)) old) f i ∙ row_along r (take n (decoded es)) old f i l h long)
-      e (subst (λ (k : ℕ). placed k e ≡ true) (sym part_length) fine)
+      (get_or es n False) (subst (λ (k : ℕ). placed k (get_or es n False) ≡ true) (sym part_length) (low n below))
       ∙ ap (truth_row r) meant
 
   -- once it is stored, one row more is written
-  pub with_rows_more : (words row : List ℕ) → words ≡ with_rows r (take n (decoded es)) old → row ≡ entry_row r words e
+  pub with_rows_more : (words row : List ℕ) → words ≡ with_rows r (take n (decoded es)) old → row ≡ entry_row r words (get_or es n False)
       → take (4 * n) words ++ row ++ drop (4 * n + 4) words ≡ with_rows r (take (n + 1) (decoded es)) old
   with_rows_more words row inv made =
-      ap₂ (λ x y. take (4 * n) x ++ y ++ drop (4 * n + 4) x) inv (made ∙ ap (λ ws. entry_row r ws e) inv ∙ row_is)
+      ap₂ (λ x y. take (4 * n) x ++ y ++ drop (4 * n + 4) x) inv (made ∙ ap (λ ws. entry_row r ws (get_or es n False)) inv ∙ row_is)
       ∙ ap (λ k. take (4 * k) (with_rows r (take n (decoded es)) old) ++ truth_row r (numbered (decoded es) n) ++ drop (4 * k + 4) (with_rows r (take n (decoded es)) old)) (sym part_length)
       ∙ with_rows_push r (take n (decoded es)) (numbered (decoded es) n) old
       ∙ ap (λ fs. with_rows r fs old) (sym (take_more (decoded es) n falsum within))

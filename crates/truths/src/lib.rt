@@ -6,10 +6,10 @@ ghost use Rattle.formulas.specs.Listed.{formulas_of};
 ghost use Rattle.truths.specs.Along.{rows_fit, rows_after, row_says};
 
 use formulas::FormulaList;
-use rows::{Lasso, at};
+use rows::{WORDS, at};
 use runs::RunSource;
-use steps::entry_row;
-use store::{WORDS, load, store};
+use steps::Along;
+use store::{load, store};
 
 mod searching;
 mod steps;
@@ -22,18 +22,16 @@ pub fn write_rows<R: RunSource>(formulas: &FormulaList, source: &R, words: &mut 
     ensures answer { result ≡ rows_fit (R.RunSource.meaning source.now) (formulas_of formulas.now) (length words.old) }
     ensures after { words.new ≡ rows_after (R.RunSource.meaning source.now) (formulas_of formulas.now) words.old }
 {
-    let Some(lasso) = Lasso::new(source.stem(), source.loop_length()) else {
+    let Some(along) = Along::new(source) else {
         return false;
     };
-    let count = formulas.len() as u16;
-    if words.len() < WORDS * count as usize {
+    let entries = formulas.entries();
+    if words.len() < WORDS * entries.len() {
         return false;
     }
-    for number in 0..count {
-        if let Some(entry) = formulas.get(number) {
-            let row = entry_row(entry, source, words, lasso);
-            store(words, number, row);
-        }
+    for (number, entry) in entries.iter().enumerate() {
+        let row = along.row(*entry, words);
+        store(words, number, row);
     }
     true
 }

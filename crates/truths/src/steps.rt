@@ -1,5 +1,5 @@
-// The row of one entry, by the rows of its operands.
-ghost use Rattle.std.specs.Prelude.{◌≡◌};
+// A run with the lasso that it has, and the rows of entries along it.
+ghost use Rattle.std.specs.Prelude.{◌≡◌, ◌+◌, ◌≤◌, ◌↔◌, IsSome, IfSome};
 ghost use Rattle.runs.specs.Telling.{told};
 ghost use Rattle.rows.specs.Row.{row_of};
 ghost use Rattle.truths.specs.Steps.{entry_row};
@@ -9,31 +9,50 @@ use formulas::Entry;
 use rows::{EMPTY, Lasso, Row, always, implies, next, put};
 use runs::RunSource;
 
-// What the source tells of an atom, at each position up to the loop's end.
-fn atom_row<R: RunSource>(source: &R, atom: u8, lasso: Lasso) -> Row
-    requires stem { lasso.stem ≡ (R.RunSource.meaning source.now).stem }
-    requires loops { lasso.loop_length ≡ (R.RunSource.meaning source.now).loop }
-    ensures { result ≡ row_of (told (R.RunSource.meaning source.now) atom) }
-{
-    let mut row = EMPTY;
-    for position in 0..lasso.positions() {
-        let more = put(row, position, source.says(atom, position));
-        row = more;
-    }
-    row
+// A source of a run that has room in rows, with the run's shape.
+#[derive(Drop)]
+pub(crate) struct Along<'a, R: RunSource> {
+    source: &'a R,
+    lasso: Lasso,
+    ghost stem: { lasso.stem ≡ (R.RunSource.meaning source.now).stem },
+    ghost loops: { lasso.loop_length ≡ (R.RunSource.meaning source.now).loop },
 }
 
-// The row of an entry, where those of its operands are in the words.
-pub(crate) fn entry_row<R: RunSource>(entry: Entry, source: &R, words: &[u64], lasso: Lasso) -> Row
-    requires stem { lasso.stem ≡ (R.RunSource.meaning source.now).stem }
-    requires loops { lasso.loop_length ≡ (R.RunSource.meaning source.now).loop }
-    ensures { result ≡ entry_row (R.RunSource.meaning source.now) words.now entry }
-{
-    match entry {
-        Entry::False => EMPTY,
-        Entry::Atom(atom) => atom_row(source, atom, lasso),
-        Entry::Implies(left, right) => implies(load(words, left), load(words, right), lasso),
-        Entry::Next(part) => next(load(words, part), lasso),
-        Entry::Always(part) => always(load(words, part), lasso),
+impl<'a, R: RunSource> Along<'a, R> {
+    // The run of a source, if rows have room for it.
+    pub(crate) fn new(source: &'a R) -> Option<Along<'a, R>>
+        ensures room { IsSome result ↔ ((R.RunSource.meaning source.now).stem + (R.RunSource.meaning source.now).loop ≤ 256) }
+        ensures same { IfSome result (λ along. along.source.now ≡ source.now) }
+    {
+        let lasso = Lasso::new(source.stem(), source.loop_length())?;
+        Some(Along { source, lasso })
+    }
+
+    // What the source tells of an atom, at each position up to the loop's end.
+    fn atom_row(&self, atom: u8) -> Row
+        ensures { result ≡ row_of (told (R.RunSource.meaning self.now.source.now) atom) }
+    {
+        let mut row = EMPTY;
+        // A fold's closure would need clauses of its own here, and the check wants a name for each longer row.
+        for position in 0..self.lasso.positions() {
+            let more = put(row, position, self.source.says(atom, position));
+            row = more;
+        }
+        row
+    }
+
+    // The row of an entry, where those of its operands are in the words.
+    pub(crate) fn row(&self, entry: Entry, words: &[u64]) -> Row
+        ensures { result ≡ entry_row (R.RunSource.meaning self.now.source.now) words.now entry }
+    {
+        match entry {
+            Entry::False => EMPTY,
+            Entry::Atom(atom) => self.atom_row(atom),
+            Entry::Implies(left, right) => {
+                implies(load(words, left), load(words, right), self.lasso)
+            }
+            Entry::Next(part) => next(load(words, part), self.lasso),
+            Entry::Always(part) => always(load(words, part), self.lasso),
+        }
     }
 }

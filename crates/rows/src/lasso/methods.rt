@@ -11,8 +11,8 @@ impl Lasso {
     pub fn new(stem: u16, loop_length: u16) -> Option<Lasso>
         ensures { option_map shape result ≡ lasso_of stem loop_length }
     {
-        let stem = stem as usize;
-        let loop_length = loop_length as usize;
+        let stem = usize::from(stem);
+        let loop_length = usize::from(loop_length);
         if loop_length == 0 || stem + loop_length > POSITIONS {
             return None;
         }

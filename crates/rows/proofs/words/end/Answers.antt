@@ -1,25 +1,18 @@
 -- The last word that is not 0 has the last position.
-use Rattle.std.proofs.Common.{arith}
-use Rattle.rows.proofs.Rows.{ends_in, none_past, none_above}
+use Rattle.std.proofs.Common.{◌≡◌, ℕ, ◌<◌, ◌^◌, get_or, arith, rules}
+use Rattle.std.proofs.lemmas.Grind.{common_steps}
+use Rattle.rows.proofs.Rows.{ends_in, ends_at_start}
 use Rattle.rows.proofs.words.end.Goals as goal
 
-pub returns-then-row-ne0 : goal.returns-then-row-ne0
-returns-then-row-ne0 c = ends_in c.args.row 3 (omega arith) (omega arith) (omega arith) (none_past c.args.row (omega arith))
+pub returns-in-Some : goal.returns-in-Some
+returns-in-Some c =
+    let low : c.in-Some.index < 4 = search rules in
+    let some : 0 < get_or c.args.row c.in-Some.index 0 = search rules in
+    let fits : get_or c.args.row c.in-Some.index 0 < 2 ^ 64 = search rules in
+    let above : (j : ℕ) → c.in-Some.index < j → get_or c.args.row j 0 ≡ 0 = grind (arith, common_steps) in
+    ends_in c.args.row c.in-Some.index low fits some above
 
-pub returns-then-row-ne0-2 : goal.returns-then-row-ne0-2
-returns-then-row-ne0-2 c =
-    ends_in c.args.row 2 (omega arith) (omega arith) (omega arith)
-    (none_above c.args.row 2 c.if-row-ne0.false (none_past c.args.row (omega arith)))
-
-pub returns-then-row-ne0-3 : goal.returns-then-row-ne0-3
-returns-then-row-ne0-3 c =
-    ends_in c.args.row 1 (omega arith) (omega arith) (omega arith)
-    (none_above c.args.row 1 c.if-row-ne0-2.false
-    (none_above c.args.row 2 c.if-row-ne0.false (none_past c.args.row (omega arith))))
-
-pub returns-else-row-ne0-3 : goal.returns-else-row-ne0-3
-returns-else-row-ne0-3 c =
-    ends_in c.args.row 0 (omega arith) (omega arith) (omega arith)
-    (none_above c.args.row 0 c.if-row-ne0-3.false
-    (none_above c.args.row 1 c.if-row-ne0-2.false
-    (none_above c.args.row 2 c.if-row-ne0.false (none_past c.args.row (omega arith)))))
+pub returns-in-None : goal.returns-in-None
+returns-in-None c =
+    let none : (j : ℕ) → get_or c.args.row j 0 ≡ 0 = grind (arith, common_steps) in
+    ends_at_start c.args.row none

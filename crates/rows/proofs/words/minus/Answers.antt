@@ -1,11 +1,7 @@
 -- Word by word, what is in the first and not in the second.
-use Rattle.std.proofs.Common.{arith}
-use Rattle.rows.proofs.Rows.{is_row, word_says, says_and, says_not}
+use Rattle.std.proofs.Common.{rules}
+use Rattle.rows.proofs.Rows.{combined, bitwise_minus}
 use Rattle.rows.proofs.words.minus.Goals as goal
 
 pub returns : goal.returns
-returns c =
-    is_row (says_and (word_says c.args.a 0 (omega arith)) (says_not (word_says c.args.b 0 (omega arith))))
-    (says_and (word_says c.args.a 1 (omega arith)) (says_not (word_says c.args.b 1 (omega arith))))
-    (says_and (word_says c.args.a 2 (omega arith)) (says_not (word_says c.args.b 2 (omega arith))))
-    (says_and (word_says c.args.a 3 (omega arith)) (says_not (word_says c.args.b 3 (omega arith))))
+returns c = combined bitwise_minus c.args.a c.args.b c.from_fn.result (λ k h. search rules) (λ k h. search rules) c.from_fn.ensures.items.long (λ k h. search rules)

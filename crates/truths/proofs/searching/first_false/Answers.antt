@@ -1,19 +1,9 @@
 -- `first_false` meets its contract: what is left of the search gives what all of it gives.
-use Rattle.std.proofs.Common.{◌≡◌, ℕ, ◌-◌, false, get_or, Some, None, sym, refl, ap, ◌∙◌}
-use native.Mathlib.Nat.{sub-zero}
+use Rattle.std.proofs.Common.{◌≡◌, false, get_or, Some, None, sym, ◌∙◌}
 use Rattle.truths.specs.Along.{row_says}
 use Rattle.truths.specs.Searching.{first_false_from}
 use Rattle.truths.proofs.Failing.{false_later, false_here, false_nowhere, failing_later, failing_here, failing_nowhere}
 use Rattle.truths.proofs.searching.first_false.Goals as goal
-
-pub search-init : goal.search-init
-search-init c = (refl, refl)
-
-pub loop-position-init : goal.loop-position-init
-loop-position-init c =
-    let p = row_says c.args.words.now (get_or c.args.formulas.now c.search.place 0) in
-    let all : c.args.positions ≡ c.args.positions - 0 = sym (sub-zero c.args.positions) in
-    (c.search.invariant.0, ap (λ (m : ℕ). first_false_from m 0 p) all)
 
 pub loop-position-preserved : goal.loop-position-preserved
 loop-position-preserved c =

@@ -2,7 +2,7 @@
 use Rattle.std.proofs.Common.{sym, refl, ap, ◌∙◌}
 use Rattle.rows.proofs.Rows.{empty_row}
 use Rattle.truths.specs.Steps.{entry_row}
-use Rattle.truths.proofs.steps.entry_row.Goals as goal
+use Rattle.truths.proofs.steps.Along.row.Goals as goal
 
 pub returns-in-False : goal.returns-in-False
-returns-in-False g c = empty_row _ (λ i h. refl) ∙ ap (entry_row (g.R.RunSource.meaning c.args.source.now) c.args.words.now) (sym c.in-False.is)
+returns-in-False g c = empty_row _ (λ i h. refl) ∙ ap (entry_row (g.R.RunSource.meaning c.args.self.now.source.now) c.args.words.now) (sym c.in-False.is)
