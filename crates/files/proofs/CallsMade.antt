@@ -1,6 +1,5 @@
 -- Reading a file's front or body is making its records' calls.
-use Rattle.std.proofs.Common.{◌≡◌, ℕ, ◌+◌, ltb, List, ◌∷◌, length, drop, Ok, Err, Result, sym, refl, ◌∙◌, subst}
-use Rattle.std.proofs.lemmas.Bool.{cond-false, le-ltb}
+use Rattle.std.proofs.Common.{◌≡◌, ℕ, ◌+◌, List, ◌∷◌, length, drop, Ok, Err, Result, sym, refl, ◌∙◌}
 use Rattle.refusals.specs.declared.Refusal.{Refusal}
 use Rattle.refusals.proofs.Answers.{ok_not_err}
 use Rattle.cases.specs.Case as cases
@@ -12,7 +11,8 @@ use Rattle.files.specs.declared.payload.FrontRecord.{FrontRecord}
 use Rattle.files.specs.declared.payload.FrontRecord.TheVariants.{FormRecord, AssumeRecord, SealRecord}
 use Rattle.files.specs.Records.{Records, none, bad, more, records}
 use Rattle.files.specs.Payloads.{record_of_front, record_of_body}
-use Rattle.files.specs.Reading.{Reading, called, front_step, front_from, front, body_step, body_from, body}
+use Rattle.files.specs.Reading.{Reading, called, front_step, front_from, front, body_step, body_from}
+use Rattle.files.proofs.Left.{body_inside}
 use Rattle.files.specs.CallsMade.{front_call, front_calls, body_call, body_calls, FrontMakesCalls, BodyMakesCalls}
 
 -- what a form record's call answered decides whether the calls behind it are made
@@ -59,8 +59,4 @@ body_leads c at (more kind payload rest) =
     (λ d. body_leads d (at + 4 + length payload) rest)
 
 pub body_makes_calls : BodyMakesCalls
-unfolding body
-body_makes_calls c start bytes within =
-    subst (λ (r : Reading (Unit {0})). Leads sealed_stage c (body_calls (records (drop start bytes))) r.after)
-    (sym (cond-false (ltb (length bytes) start) _ (body_from c start (records (drop start bytes))) (le-ltb (length bytes) start within)))
-    (body_leads c start (records (drop start bytes)))
+body_makes_calls c start bytes within = rw (body_inside c start bytes within) (body_leads c start (records (drop start bytes)))

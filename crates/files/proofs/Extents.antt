@@ -1,7 +1,7 @@
 -- No offset that reading answers lies past the end of the file.
-use Rattle.std.proofs.Common.{ℕ, zero, suc, ◌+◌, ◌≤◌, eqb, List, length, drop, Some, None, Ok, Err, Option, Result, sym, subst, arith, length-drop, length-take}
+use Rattle.std.proofs.Common.{ℕ, zero, suc, ◌+◌, ◌≤◌, eqb, List, length, drop, Some, None, Ok, Err, Option, Result, arith, length-drop, length-take}
 use lib.Dec
-use Rattle.std.proofs.lemmas.Bool.{cond_both, cond-false, ltb-false, le-ltb}
+use Rattle.std.proofs.lemmas.Bool.{cond_both, ltb-false}
 use Rattle.refusals.specs.declared.Refusal.{Refusal}
 use Rattle.cases.specs.Case as cases
 use Rattle.cases.specs.Calls as calls
@@ -14,6 +14,7 @@ use Rattle.files.specs.declared.payload.FrontRecord.TheVariants.{FormRecord, Ass
 use Rattle.files.specs.Records.{Content, Records, none, bad, more, word, first_content, led_by, cut, records}
 use Rattle.files.specs.Payloads.{record_of_front, record_of_body}
 use Rattle.files.specs.Reading.{Reading, called, front_step, front_from, front, body_step, body_from, body}
+use Rattle.files.proofs.Left.{body_inside}
 
 -- how many bytes records take up
 abbrev extent : Records → ℕ
@@ -96,8 +97,6 @@ unfolding front
 front_within c bytes = front_from_within (length bytes) c 0 (records bytes) (omega (arith, records_extent bytes))
 
 pub body_within : (c : cases.Case) (start : ℕ) (bytes : List ℕ) → start ≤ length bytes → BodyWithin (length bytes) (body c start bytes).answer
-unfolding body
 body_within c start bytes within =
-    subst (λ (r : Reading (Unit {0})). BodyWithin (length bytes) r.answer)
-    (sym (cond-false (Dec.ltb (length bytes) start) _ (body_from c start (records (drop start bytes))) (le-ltb (length bytes) start within)))
+    rw (body_inside c start bytes within)
     (body_from_within (length bytes) c start (records (drop start bytes)) (omega (arith, records_extent (drop start bytes), length-drop start bytes)))

@@ -1,6 +1,5 @@
 pub mod Cutting
-pub mod Placing
-pub mod Steps
+pub mod Left
 pub mod ReadBack
 pub mod CallsMade
 pub mod Extents

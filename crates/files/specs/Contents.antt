@@ -1,11 +1,11 @@
--- The record at an offset of a file, and what the program's records hold.
-use Rattle.std.specs.Prelude.{ℕ, cond, List, length, drop, Some, None, Ok, Err, Option, Result, nat_lt}
-use Rattle.files.specs.declared.fault.Cause.TheVariants.{Record}
-use Rattle.files.specs.declared.fault.Fault.{Fault}
+-- The records of a file from an offset on, and what the program's records hold.
+use Rattle.std.specs.Prelude.{◌≡◌, ℕ, ◌+◌, ◌≤◌, cond, List, length, drop, Some, None, Ok, Err, Option, Result, MatchOption, MatchResult, nat_lt}
+use Rattle.files.specs.declared.fault.ErrorAt.{ErrorAt}
 use Rattle.files.specs.declared.fault.RecordFault.{RecordFault}
 use Rattle.files.specs.declared.fault.RecordFault.TheVariants.{ShortHead}
 use Rattle.files.specs.declared.record.Record as declared
-use Rattle.files.specs.Records.{Content, first_content}
+use Rattle.files.specs.declared.record.Records as iterator
+use Rattle.files.specs.Records.{Content, first_content, Records, none, bad, more, records}
 
 -- a record of the program holds its kind and the bytes that its payload points to
 abbrev pub content : {E : Type 0} → Result (Option declared.Record) E → Result (Option Content) E
@@ -13,11 +13,43 @@ content (Ok None) = Ok None
 content (Ok (Some r)) = Ok (Some (record { kind = r.kind; payload = r.payload.now }))
 content (Err e) = Err e
 
--- a record or what is wrong with it, at an offset
-abbrev pub placed : ℕ → Result (Option Content) RecordFault → Result (Option Content) Fault
-placed at (Ok r) = Ok r
-placed at (Err e) = Err (record { cause = Record e; offset = at })
-
 -- the record at an offset, which must not lie past the end
-abbrev pub content_at : List ℕ → ℕ → Result (Option Content) Fault
-content_at bytes at = placed at (cond (nat_lt (length bytes) at) (Err ShortHead) (first_content (drop at bytes)))
+abbrev pub content_at : List ℕ → ℕ → Result (Option Content) RecordFault
+content_at bytes at = cond (nat_lt (length bytes) at) (Err ShortHead) (first_content (drop at bytes))
+
+-- a record of the program tells where it stands
+pub record IsPlaced (bytes : List ℕ) (at : ℕ) (r : declared.Record) : Type 0 where
+  pub head : r.offset ≡ at
+  pub behind : r.behind ≡ at + 4 + length r.payload.now
+  pub within : r.behind ≤ length bytes
+
+-- the records from an offset on, which must not lie past the end
+abbrev pub records_from : List ℕ → ℕ → Records
+records_from bytes at = cond (nat_lt (length bytes) at) (bad ShortHead) (records (drop at bytes))
+
+-- the records that are left
+abbrev pub left : iterator.Records → Records
+left s = records_from s.file.now s.offset
+
+-- a record was found first, and what is left then is behind it
+pub record YieldsMore (s t : iterator.Records) (r : declared.Record) : Type 0 where
+  pub led : left s ≡ more r.kind r.payload.now (left t)
+  pub place : IsPlaced s.file.now s.offset r
+  pub next : t.offset ≡ r.behind
+
+-- a fault was found first, and then nothing is left
+pub record YieldsBad (s t : iterator.Records) (e : ErrorAt RecordFault) : Type 0 where
+  pub faulted : left s ≡ bad e.error
+  pub head : e.offset ≡ s.offset
+  pub rest : left t ≡ none
+
+-- nothing was left, at the end of the file
+pub record YieldsNone (s t : iterator.Records) : Type 0 where
+  pub ended : left s ≡ none
+  pub end : s.offset ≡ length s.file.now
+  pub rest : left t ≡ none
+
+-- what a call of `next` finds first in what is left, and what is left then of the same file
+pub record YieldsRecord (s : iterator.Records) (item : Option (Result declared.Record (ErrorAt RecordFault))) (t : iterator.Records) : Type 0 where
+  pub same : t.file.now ≡ s.file.now
+  pub yields : MatchOption item (YieldsNone s t) (λ x. MatchResult x (YieldsMore s t) (YieldsBad s t))

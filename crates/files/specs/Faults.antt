@@ -1,6 +1,5 @@
--- The layer and the number that a caller is told for a fault, and a refusal with its place.
+-- The layer and the number that a caller is told for a fault, and an error with its place.
 use Rattle.std.specs.Prelude.{ℕ, Ok, Err, Result}
-use Rattle.refusals.specs.declared.Refusal.{Refusal}
 use Rattle.refusals.specs.Numbers.{number_of}
 use Rattle.files.specs.declared.fault.RecordFault.{RecordFault}
 use Rattle.files.specs.declared.fault.RecordFault.TheVariants.{ShortHead, PayloadCut, NoSeal}
@@ -8,7 +7,7 @@ use Rattle.files.specs.declared.fault.PayloadFault.{PayloadFault}
 use Rattle.files.specs.declared.fault.PayloadFault.TheVariants.{KindNotAllowed, WrongLength}
 use Rattle.files.specs.declared.fault.Cause.{Cause}
 use Rattle.files.specs.declared.fault.Cause.TheVariants.{Record, Payload, Case}
-use Rattle.files.specs.declared.fault.RefusedAt.{RefusedAt}
+use Rattle.files.specs.declared.fault.ErrorAt.{ErrorAt}
 
 -- what is wrong with a record
 abbrev pub record_number : RecordFault → ℕ
@@ -33,7 +32,7 @@ cause_number (Record e) = record_number e
 cause_number (Payload e) = payload_number e
 cause_number (Case e) = number_of e
 
--- a call's answer, with a refusal beside the offset of the record
-abbrev pub refused_at : ℕ → Result ℕ Refusal → Result (Unit {0}) RefusedAt
-refused_at at (Ok n) = Ok tt
-refused_at at (Err e) = Err (record { refusal = e; offset = at })
+-- an answer, with an error beside the offset of the record that it is about
+abbrev pub placed : {A E : Type 0} → ℕ → Result A E → Result A (ErrorAt E)
+placed at (Ok x) = Ok x
+placed at (Err e) = Err (record { error = e; offset = at })

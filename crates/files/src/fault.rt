@@ -1,26 +1,29 @@
 // Why a file is not read on: what is wrong with a record, its payload or its call, and where.
 ghost use Rattle.std.specs.Prelude.{◌≡◌};
-ghost use Rattle.files.specs.Faults.{layer_of, record_number, payload_number, cause_number, refused_at};
+ghost use Rattle.files.specs.Faults.{layer_of, record_number, payload_number, cause_number, placed};
+ghost use Rattle.files.specs.declared.fault.Cause.{Cause};
 ghost use Rattle.files.specs.declared.fault.Cause.TheVariants.{Record, Payload, Case};
 
 use refusals::Refusal;
 
+// What is wrong with a record.
 #[derive(Clone, Copy, PartialEq, Eq, Debug)]
 pub enum RecordFault {
     // 1 to 3 bytes remain for a head, or the start lies past the end
-    ShortHead,
+    ShortHead = 21,
     // the payload passes the end of the file
-    PayloadCut,
+    PayloadCut = 22,
     // the front ends without a seal record
-    NoSeal,
+    NoSeal = 25,
 }
 
+// What is wrong with a payload.
 #[derive(Clone, Copy, PartialEq, Eq, Debug)]
 pub enum PayloadFault {
     // the kind is not allowed in this part of the file
-    KindNotAllowed,
+    KindNotAllowed = 23,
     // the length is not that kind's
-    WrongLength,
+    WrongLength = 24,
 }
 
 #[derive(Clone, Copy, PartialEq, Eq, Debug)]
@@ -38,73 +41,51 @@ pub struct Fault {
     pub offset: usize,
 }
 
-// A case's refusal, held beside the offset of the record whose call was refused.
+// An error that becomes a cause, held beside the offset that its fault tells.
 #[derive(Clone, Copy)]
-pub struct RefusedAt {
-    pub refusal: Refusal,
+pub struct ErrorAt<E> {
+    pub error: E,
     pub offset: usize,
 }
 
-// What the call of the record at an offset answered: reading needs no number, but a refusal with its place.
-pub(crate) fn at_offset(answer: Result<u16, Refusal>, offset: usize) -> Result<(), RefusedAt>
-    ensures { result ≡ refused_at offset answer }
+// An answer about the record at an offset: its error is held beside the offset.
+pub(crate) fn at<T, E>(offset: usize, answer: Result<T, E>) -> Result<T, ErrorAt<E>>
+    ensures { result ≡ placed offset answer }
 {
-    match answer {
-        Ok(_) => Ok(()),
-        Err(refusal) => Err(RefusedAt { refusal, offset }),
+    answer.map_err(|error| ErrorAt { error, offset })
+}
+
+impl From<RecordFault> for Cause {
+    ghost from_gives = { λ e c. c ≡ Record e };
+
+    fn from(fault: RecordFault) -> Cause {
+        Cause::Record(fault)
     }
 }
 
-impl From<RefusedAt> for Fault {
-    ghost from_gives = { λ e r. r ≡ record { cause = Case e.refusal; offset = e.offset } };
+impl From<PayloadFault> for Cause {
+    ghost from_gives = { λ e c. c ≡ Payload e };
 
-    fn from(e: RefusedAt) -> Fault {
+    fn from(fault: PayloadFault) -> Cause {
+        Cause::Payload(fault)
+    }
+}
+
+impl From<Refusal> for Cause {
+    ghost from_gives = { λ e c. c ≡ Case e };
+
+    fn from(refusal: Refusal) -> Cause {
+        Cause::Case(refusal)
+    }
+}
+
+impl<E: Into<Cause>> From<ErrorAt<E>> for Fault {
+    ghost from_gives = { λ e f. E.converts e.error f.cause × (f.offset ≡ e.offset) };
+
+    fn from(e: ErrorAt<E>) -> Fault {
         Fault {
-            cause: Cause::Case(e.refusal),
+            cause: e.error.into(),
             offset: e.offset,
-        }
-    }
-}
-
-impl RecordFault {
-    // This fault, in the record at an offset.
-    pub(crate) fn at(self, offset: usize) -> Fault
-        ensures { result ≡ record { cause = Record self; offset = offset } }
-    {
-        Fault {
-            cause: Cause::Record(self),
-            offset,
-        }
-    }
-
-    fn number(self) -> u8
-        ensures { result ≡ record_number self }
-    {
-        match self {
-            RecordFault::ShortHead => 21,
-            RecordFault::PayloadCut => 22,
-            RecordFault::NoSeal => 25,
-        }
-    }
-}
-
-impl PayloadFault {
-    // This fault, in the record at an offset.
-    pub(crate) fn at(self, offset: usize) -> Fault
-        ensures { result ≡ record { cause = Payload self; offset = offset } }
-    {
-        Fault {
-            cause: Cause::Payload(self),
-            offset,
-        }
-    }
-
-    fn number(self) -> u8
-        ensures { result ≡ payload_number self }
-    {
-        match self {
-            PayloadFault::KindNotAllowed => 23,
-            PayloadFault::WrongLength => 24,
         }
     }
 }
@@ -125,8 +106,8 @@ impl Fault {
         ensures { result ≡ cause_number self.cause }
     {
         match self.cause {
-            Cause::Record(e) => e.number(),
-            Cause::Payload(e) => e.number(),
+            Cause::Record(e) => e as u8,
+            Cause::Payload(e) => e as u8,
             Cause::Case(e) => e.number(),
         }
     }

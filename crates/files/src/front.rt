@@ -2,48 +2,43 @@
 ghost use Rattle.std.specs.Prelude.{◌≡◌};
 ghost use Rattle.cases.specs.Calls.{form, assume};
 ghost use Rattle.cases.specs.Model.{opened};
-ghost use Rattle.files.specs.Faults.{refused_at};
+ghost use Rattle.files.specs.Faults.{placed};
 ghost use Rattle.files.specs.Reading.{front};
 
-use crate::fault::{Fault, RecordFault, RefusedAt, at_offset};
-use crate::payload::{Form, FrontRecord, front_record};
-use crate::record::{HEAD, record_at};
+use crate::fault::{Cause, ErrorAt, Fault, RecordFault, at};
+use crate::payload::{Form, FrontRecord};
+use crate::record::Records;
 use cases::OpenCase;
+use refusals::Refusal;
 
 // Makes the calls that the records ask for, up to the seal record, and answers the offset behind it.
 pub fn read_front(case: &mut OpenCase, file: &[u8]) -> Result<usize, Fault>
     ensures answer { result ≡ (front (opened case.old) file.now).answer }
     ensures after { opened case.new ≡ (front (opened case.old) file.now).after }
 {
-    let mut offset = 0;
-    while let Some(record) = record_at(file, offset)? {
-        let behind = offset + HEAD + record.payload.len();
-        let request = match front_record(record.kind, record.payload) {
-            Ok(request) => request,
-            Err(fault) => return Err(fault.at(offset)),
+    for record in Records::new(file, 0) {
+        let record = record?;
+        // a call answers a number or a place, which reading needs no more
+        match at(record.offset, FrontRecord::try_from(record))? {
+            FrontRecord::FormRecord(form) => make_form_call(case, form, record.offset)?,
+            FrontRecord::AssumeRecord(formula) => at(record.offset, case.assume(formula))?,
+            FrontRecord::SealRecord => return Ok(record.behind),
         };
-        match request {
-            FrontRecord::FormRecord(form) => make_form_call(case, form, offset)?,
-            FrontRecord::AssumeRecord(formula) => make_assume_call(case, formula, offset)?,
-            FrontRecord::SealRecord => return Ok(behind),
-        }
-        offset = behind;
     }
-    Err(RecordFault::NoSeal.at(offset))
+    Err(Fault {
+        cause: Cause::Record(RecordFault::NoSeal),
+        offset: file.len(),
+    })
 }
 
 // The call of a record that has a formula entered.
-fn make_form_call(case: &mut OpenCase, request: Form, offset: usize) -> Result<(), RefusedAt>
-    ensures answer { result ≡ refused_at offset (form (opened case.old) request.kind request.left request.right).answer }
+fn make_form_call(
+    case: &mut OpenCase,
+    request: Form,
+    offset: usize,
+) -> Result<u16, ErrorAt<Refusal>>
+    ensures answer { result ≡ placed offset (form (opened case.old) request.kind request.left request.right).answer }
     ensures after { opened case.new ≡ (form (opened case.old) request.kind request.left request.right).after }
 {
-    at_offset(case.form(request.kind, request.left, request.right), offset)
-}
-
-// The call of a record that has a formula assumed.
-fn make_assume_call(case: &mut OpenCase, formula: u16, offset: usize) -> Result<(), RefusedAt>
-    ensures answer { result ≡ refused_at offset (assume (opened case.old) formula).answer }
-    ensures after { opened case.new ≡ (assume (opened case.old) formula).after }
-{
-    at_offset(case.assume(formula), offset)
+    at(offset, case.form(request.kind, request.left, request.right))
 }

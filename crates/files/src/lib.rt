@@ -8,5 +8,5 @@ mod payload;
 mod record;
 
 pub use body::read_body;
-pub use fault::{Cause, Fault, PayloadFault, RecordFault, RefusedAt};
+pub use fault::{Cause, ErrorAt, Fault, PayloadFault, RecordFault};
 pub use front::read_front;

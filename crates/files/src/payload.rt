@@ -1,17 +1,19 @@
 // What records ask for, by their kinds and payloads.
 ghost use Rattle.std.specs.Prelude.{◌≡◌};
-ghost use Rattle.files.specs.Payloads.{long, form_in, record_of_front, record_of_body};
+ghost use Rattle.files.specs.Payloads.{long, form_in, kind_of, record_of_front, record_of_body};
 ghost use Rattle.files.specs.Records.{word};
 ghost use Rattle.files.specs.declared.payload.FrontRecord.TheVariants.{AssumeRecord, SealRecord};
 
 use crate::fault::PayloadFault;
+use crate::record::Record;
 
 // The kinds of records.
-const FORM: u16 = 1;
-
-const ASSUME: u16 = 2;
-
-const SEAL: u16 = 3;
+#[derive(Clone, Copy)]
+enum RecordKind {
+    Form,
+    Assume,
+    Seal,
+}
 
 // A formula to be entered: its kind and its two fields.
 #[derive(Clone, Copy)]
@@ -29,25 +31,47 @@ pub enum FrontRecord {
     SealRecord,
 }
 
-// What a record of the front asks for.
-pub(crate) fn front_record(kind: u16, payload: &[u8]) -> Result<FrontRecord, PayloadFault>
-    ensures { result ≡ record_of_front kind payload.now }
-{
-    match kind {
-        FORM => Ok(FrontRecord::FormRecord(form_record(payload)?)),
-        ASSUME => assume_record(payload),
-        SEAL => seal_record(payload),
-        _ => Err(PayloadFault::KindNotAllowed),
+impl TryFrom<u16> for RecordKind {
+    type Error = PayloadFault;
+
+    ghost try_from_gives = { λ kind r. r ≡ kind_of kind };
+
+    fn try_from(kind: u16) -> Result<RecordKind, PayloadFault> {
+        match kind {
+            1 => Ok(RecordKind::Form),
+            2 => Ok(RecordKind::Assume),
+            3 => Ok(RecordKind::Seal),
+            _ => Err(PayloadFault::KindNotAllowed),
+        }
     }
 }
 
-// What a record of the body asks for.
-pub(crate) fn body_record(kind: u16, payload: &[u8]) -> Result<Form, PayloadFault>
-    ensures { result ≡ record_of_body kind payload.now }
-{
-    match kind {
-        FORM => form_record(payload),
-        _ => Err(PayloadFault::KindNotAllowed),
+// What a record of the front asks for.
+impl TryFrom<Record<'_>> for FrontRecord {
+    type Error = PayloadFault;
+
+    ghost try_from_gives = { λ x r. r ≡ record_of_front x.kind x.payload.now };
+
+    fn try_from(record: Record<'_>) -> Result<FrontRecord, PayloadFault> {
+        match RecordKind::try_from(record.kind)? {
+            RecordKind::Form => Ok(FrontRecord::FormRecord(form_record(record.payload)?)),
+            RecordKind::Assume => assume_record(record.payload),
+            RecordKind::Seal => seal_record(record.payload),
+        }
+    }
+}
+
+// What a record of the body asks for: that a formula is entered.
+impl TryFrom<Record<'_>> for Form {
+    type Error = PayloadFault;
+
+    ghost try_from_gives = { λ x r. r ≡ record_of_body x.kind x.payload.now };
+
+    fn try_from(record: Record<'_>) -> Result<Form, PayloadFault> {
+        match RecordKind::try_from(record.kind)? {
+            RecordKind::Form => form_record(record.payload),
+            RecordKind::Assume | RecordKind::Seal => Err(PayloadFault::KindNotAllowed),
+        }
     }
 }
 

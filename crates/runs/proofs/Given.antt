@@ -1,6 +1,6 @@
 -- A table's run is as its bytes give it.
-use Rattle.std.proofs.Common.{◌≡◌, ℕ, suc, ◌+◌, ◌-◌, ◌*◌, ◌/◌, ◌%◌, ◌^◌, eqb, List, get_or, drop, sym, ap, ◌∙◌, ap₂, add_assoc, arith, get_or-drop}
-use Rattle.std.proofs.lemmas.Bool.{eqb-true, eq-eqb}
+use Rattle.std.proofs.Common.{◌≡◌, ℕ, suc, ◌+◌, ◌-◌, ◌*◌, ◌/◌, ◌%◌, ◌^◌, eqb, List, drop, sym, ap, ◌∙◌, ap₂, add_assoc, arith, get_or-drop}
+use Rattle.std.proofs.lemmas.Bool.Decides.{nat_tests}
 use Rattle.runs.specs.AsGiven.{TablesAsGiven}
 use Rattle.runs.specs.Bytes.{word, double_word}
 use Rattle.runs.specs.Tables.{table_says, table_run}
@@ -9,8 +9,7 @@ use Rattle.runs.proofs.Told.{says_within}
 
 -- the numbers of the bytes behind some others
 word_drop : (n : ℕ) (bytes : List ℕ) (at : ℕ) → word (drop n bytes) at ≡ word bytes (n + at)
-word_drop n bytes at =
-    ap₂ (λ x y. x + 256 * y) (get_or-drop n bytes at 0) (get_or-drop n bytes (at + 1) 0 ∙ ap (λ k. get_or bytes k 0) (sym (add_assoc n at 1)))
+word_drop n bytes at = grind (arith, get_or-drop {A = ℕ})
 
 double_word_drop : (n : ℕ) (bytes : List ℕ) (at : ℕ) → double_word (drop n bytes) at ≡ double_word bytes (n + at)
 double_word_drop n bytes at =
@@ -28,5 +27,5 @@ tables_as_given bytes p =
           ap (λ r. r.says a i) run
           ∙ says_within (word bytes 0) (word bytes 2) (table_says (drop 4 bytes)) a i passed.turns l
           ∙ ap (λ n. eqb (n / 2 ^ a % 2) 1) (double_word_drop 4 bytes (4 * i)) in
-          (λ t. eqb-true (double_word bytes (4 + 4 * i) / 2 ^ a % 2) 1 (sym says ∙ t), λ e. says ∙ eq-eqb (double_word bytes (4 + 4 * i) / 2 ^ a % 2) 1 e),
+          (λ t. grind (arith, nat_tests), λ e. grind (arith, nat_tests)),
     )

@@ -1,7 +1,8 @@
 pub mod Told
 pub mod Passing
 pub mod Pulsing
-pub mod Steps
 pub mod Along
 pub mod Given
 pub mod Ruled
+pub mod Chunks
+pub mod Arrays

@@ -1,5 +1,5 @@
 -- Table runs: the stem, the loop, and a word of 32 bits for each position up to the loop's end.
-use Rattle.std.specs.Prelude.{ℕ, ◌+◌, ◌*◌, ◌/◌, ◌%◌, ◌^◌, Bool, cond, List, length, drop, Ok, Err, Result, ◌==◌, nat_lt}
+use Rattle.std.specs.Prelude.{ℕ, ◌+◌, ◌*◌, ◌/◌, ◌%◌, ◌^◌, Bool, cond, List, [], length, drop, slice_index_or, Ok, Err, Result, ◌==◌, nat_lt}
 use Rattle.logic.specs.Run.{Run}
 use Rattle.runs.specs.declared.fault.RunFault.{RunFault}
 use Rattle.runs.specs.declared.fault.RunFault.TheVariants.{WrongLength, NoRun}
@@ -9,6 +9,10 @@ use Rattle.runs.specs.Looping.{looped, when_run}
 -- bit a of the word for position i, from the lowest
 abbrev pub table_says : List ℕ → ℕ → ℕ → Bool
 table_says words a i = double_word words (4 * i) / 2 ^ a % 2 == 1
+
+-- the same, where the four bytes of each word stand apart
+abbrev pub words_say : List (List ℕ) → ℕ → ℕ → Bool
+words_say arrays a i = double_word (slice_index_or arrays i []) 0 / 2 ^ a % 2 == 1
 
 -- the length is that of the stem, the loop and their words, and the loop is not 0
 unfoldable pub table_check : List ℕ → Result (Unit {0}) RunFault

@@ -6,11 +6,11 @@ ghost use Rattle.runs.specs.Pulses.{pulse_check};
 ghost use Rattle.runs.specs.Rules.{PulseRules};
 
 mod fault;
+mod looped;
 mod pulse;
 mod pulses;
 mod source;
 mod table;
-mod telling;
 
 pub use fault::RunFault;
 pub use pulses::PulseRun;

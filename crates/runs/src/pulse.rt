@@ -1,11 +1,8 @@
-// One atom's pulse, and the pulses in bytes.
-ghost use Rattle.std.specs.Prelude.{◌≡◌, ◌/◌, ◌<◌, length};
-ghost use Rattle.runs.specs.Pulses.{pulse_at, on, allowed, in_order, latest};
+// One atom's pulse.
+ghost use Rattle.std.specs.Prelude.{◌≡◌, ◌<◌};
+ghost use Rattle.runs.specs.Pulses.{pulse_at, on, allowed};
 
-use crate::telling::ATOMS;
-
-// The length of a pulse in bytes.
-pub(crate) const LENGTH: usize = 8;
+use crate::looped::ATOMS;
 
 // From its first position on, an atom is true for its width in every period.
 #[derive(Clone, Copy)]
@@ -16,21 +13,30 @@ pub(crate) struct Pulse {
     pub width: u16,
 }
 
-impl Pulse {
-    // The pulse with a number among some bytes.
-    pub(crate) fn at(entries: &[u8], number: usize) -> Pulse
-        requires { number < length entries.now / 8 }
-        ensures { result ≡ pulse_at entries.now number }
-    {
-        let start = LENGTH * number;
+impl From<&[u8; 8]> for Pulse {
+    ghost from_gives = { λ bytes pulse. pulse ≡ pulse_at bytes.now 0 };
+
+    fn from(bytes: &[u8; 8]) -> Pulse {
+        let [
+            atom_low,
+            atom_high,
+            first_low,
+            first_high,
+            period_low,
+            period_high,
+            width_low,
+            width_high,
+        ] = *bytes;
         Pulse {
-            atom: u16::from_le_bytes([entries[start], entries[start + 1]]),
-            first: u16::from_le_bytes([entries[start + 2], entries[start + 3]]),
-            period: u16::from_le_bytes([entries[start + 4], entries[start + 5]]),
-            width: u16::from_le_bytes([entries[start + 6], entries[start + 7]]),
+            atom: u16::from_le_bytes([atom_low, atom_high]),
+            first: u16::from_le_bytes([first_low, first_high]),
+            period: u16::from_le_bytes([period_low, period_high]),
+            width: u16::from_le_bytes([width_low, width_high]),
         }
     }
+}
 
+impl Pulse {
     // Whether the pulse is on at a position.
     pub(crate) fn is_on(self, position: usize) -> bool
         requires { 0 < self.period }
@@ -41,7 +47,7 @@ impl Pulse {
     }
 
     // Whether a run with a loop may have the pulse.
-    fn is_allowed(self, loop_length: u16) -> bool
+    pub(crate) fn is_allowed(self, loop_length: u16) -> bool
         ensures { result ≡ allowed loop_length self }
     {
         self.atom < ATOMS
@@ -49,33 +55,4 @@ impl Pulse {
             && self.width <= self.period
             && loop_length % self.period == 0
     }
-}
-
-// Whether a run with a loop may have these pulses, their atoms strictly rising.
-pub(crate) fn are_in_order(loop_length: u16, entries: &[u8]) -> bool
-    ensures { result ≡ in_order loop_length entries.now (length entries.now / 8) }
-{
-    let mut least = 0;
-    for number in 0..entries.len() / LENGTH {
-        let pulse = Pulse::at(entries, number);
-        if pulse.atom < least || !pulse.is_allowed(loop_length) {
-            return false;
-        }
-        least = pulse.atom + 1;
-    }
-    true
-}
-
-// The largest first position, or 0 without pulses.
-pub(crate) fn latest_first(entries: &[u8]) -> u16
-    ensures { result ≡ latest entries.now (length entries.now / 8) }
-{
-    let mut latest = 0;
-    for number in 0..entries.len() / LENGTH {
-        let pulse = Pulse::at(entries, number);
-        if pulse.first > latest {
-            latest = pulse.first;
-        }
-    }
-    latest
 }

@@ -1,15 +1,92 @@
 // Runs that are given by pulses.
-ghost use Rattle.std.specs.Prelude.{◌≡◌, ◌/◌, ◌<◌, true, length};
-ghost use Rattle.runs.specs.Pulses.{in_order};
+ghost use Rattle.std.specs.Prelude.{◌≡◌, length};
+ghost use Rattle.runs.specs.AsGiven.{PulsesAllAlong};
+ghost use Rattle.runs.specs.Meanings.{GivesRun, pulse_meaning};
+ghost use Rattle.runs.specs.Pulses.{pulse_in, pulsed, in_order, latest, pulse_check, pulse_run};
 
-mod methods;
+use crate::fault::RunFault;
+use crate::looped::{Looped, Positions};
+use crate::pulse::Pulse;
 
+// The pulses of a run, by rising atom.
 #[derive(Clone, Copy)]
-pub struct PulseRun<'a> {
-    stem: u16,
-    loop_length: u16,
-    // eight bytes for each pulse
-    entries: &'a [u8],
-    ghost turns: { 0 < loop_length },
-    ghost orderly: { in_order loop_length entries.now (length entries.now / 8) ≡ true },
+pub struct Pulses<'a>(&'a [[u8; 8]]);
+
+pub type PulseRun<'a> = Looped<Pulses<'a>>;
+
+impl<'a> PulseRun<'a> {
+    // Whether bytes give a pulse run.
+    pub fn check(bytes: &[u8]) -> Result<(), RunFault>
+        ensures { result ≡ pulse_check bytes.now }
+    {
+        PulseRun::try_from(bytes).map(|_| ())
+    }
+
+    // The run that the bytes give; its pulses stay where they are.
+    pub fn new(bytes: &'a [u8]) -> PulseRun<'a>
+        ensures run { pulse_meaning result ≡ pulse_run bytes.now }
+        ensures along { PulsesAllAlong bytes.now }
+    {
+        PulseRun::try_from(bytes).unwrap_or(Looped::of_one_position(Pulses(&[])))
+    }
+}
+
+impl<'a> TryFrom<&'a [u8]> for PulseRun<'a> {
+    type Error = RunFault;
+
+    ghost try_from_gives = { λ bytes result. GivesRun (pulse_check bytes.now) (pulse_run bytes.now) pulse_meaning result };
+
+    #[tactic(auto, unfolding(crate::specs::Pulses::pulse_check))]
+    fn try_from(bytes: &'a [u8]) -> Result<Self, RunFault> {
+        let [loop_low, loop_high, pulses @ ..] = bytes else {
+            return Err(RunFault::WrongLength);
+        };
+        let (pulses, []) = pulses.as_chunks::<8>() else {
+            return Err(RunFault::WrongLength);
+        };
+        let pulses = Pulses(pulses);
+        let loop_length = u16::from_le_bytes([*loop_low, *loop_high]);
+        if loop_length == 0 || !pulses.are_in_order(loop_length) {
+            return Err(RunFault::NoRun);
+        }
+        Ok(Looped {
+            stem: pulses.latest_first(),
+            loop_length,
+            positions: pulses,
+        })
+    }
+}
+
+impl Positions for Pulses<'_> {
+    ghost fits = { λ loop pulses. in_order loop (pulse_in pulses.0.now) (length pulses.0.now) };
+
+    ghost truths = { λ pulses. pulsed (pulse_in pulses.0.now) (length pulses.0.now) };
+
+    fn is_true(&self, atom: u8, position: usize) -> bool {
+        let mut pulses = self.0.iter().map(Pulse::from);
+        pulses.any(|pulse| pulse.atom == u16::from(atom) && pulse.is_on(position))
+    }
+}
+
+impl Pulses<'_> {
+    // Whether a run with a loop may have these pulses, their atoms strictly rising.
+    fn are_in_order(&self, loop_length: u16) -> bool
+        ensures { result ≡ in_order loop_length (pulse_in self.now.0.now) (length self.now.0.now) }
+    {
+        let mut pulses = self.0.iter().map(Pulse::from);
+        pulses.all(|pulse| pulse.is_allowed(loop_length))
+            && self.0.is_sorted_by(|before, after| {
+                Pulse::from(before).atom < Pulse::from(after).atom
+            })
+    }
+
+    // The largest first position, or 0 without pulses.
+    fn latest_first(&self) -> u16
+        ensures { result ≡ latest (pulse_in self.now.0.now) (length self.now.0.now) }
+    {
+        self.0
+            .iter()
+            .map(|bytes| Pulse::from(bytes).first)
+            .fold(0, u16::max)
+    }
 }

@@ -1,14 +1,75 @@
 // Runs that are given position by position.
-ghost use Rattle.std.specs.Prelude.{◌≡◌, ◌%◌, ◌<◌, length};
+ghost use Rattle.std.specs.Prelude.{◌≡◌, true};
+ghost use Rattle.runs.specs.AsGiven.{TablesAsGiven};
+ghost use Rattle.runs.specs.Meanings.{GivesRun, table_meaning};
+ghost use Rattle.runs.specs.Tables.{table_check, table_run, words_say};
 
-mod methods;
+use crate::fault::RunFault;
+use crate::looped::{Looped, Positions};
 
+// A word for each position up to the loop's end, or none at all.
 #[derive(Clone, Copy)]
-pub struct TableRun<'a> {
-    stem: u16,
-    loop_length: u16,
-    // a word of four bytes for each position up to the loop's end, or no bytes at all
-    words: &'a [u8],
-    ghost turns: { 0 < loop_length },
-    ghost whole: { length words.now % 4 ≡ 0 },
+pub struct Words<'a>(&'a [[u8; 4]]);
+
+pub type TableRun<'a> = Looped<Words<'a>>;
+
+// Each kind of run has a check and a constructor of its own, since their contracts name its definitions.
+impl<'a> TableRun<'a> {
+    // Whether bytes give a table run.
+    pub fn check(bytes: &[u8]) -> Result<(), RunFault>
+        ensures { result ≡ table_check bytes.now }
+    {
+        TableRun::try_from(bytes).map(|_| ())
+    }
+
+    // The run that the bytes give; its words stay where they are.
+    pub fn new(bytes: &'a [u8]) -> TableRun<'a>
+        ensures run { table_meaning result ≡ table_run bytes.now }
+        ensures given { TablesAsGiven bytes.now }
+    {
+        TableRun::try_from(bytes).unwrap_or(Looped::of_one_position(Words(&[])))
+    }
+}
+
+impl<'a> TryFrom<&'a [u8]> for TableRun<'a> {
+    type Error = RunFault;
+
+    ghost try_from_gives = { λ bytes result. GivesRun (table_check bytes.now) (table_run bytes.now) table_meaning result };
+
+    #[tactic(auto, unfolding(crate::specs::Tables::table_check))]
+    fn try_from(bytes: &'a [u8]) -> Result<Self, RunFault> {
+        let [stem_low, stem_high, loop_low, loop_high, words @ ..] = bytes else {
+            return Err(RunFault::WrongLength);
+        };
+        let (words, []) = words.as_chunks::<4>() else {
+            return Err(RunFault::WrongLength);
+        };
+        let stem = u16::from_le_bytes([*stem_low, *stem_high]);
+        let loop_length = u16::from_le_bytes([*loop_low, *loop_high]);
+        if words.len() != usize::from(stem) + usize::from(loop_length) {
+            return Err(RunFault::WrongLength);
+        }
+        if loop_length == 0 {
+            return Err(RunFault::NoRun);
+        }
+        Ok(Looped {
+            stem,
+            loop_length,
+            positions: Words(words),
+        })
+    }
+}
+
+impl Positions for Words<'_> {
+    ghost fits = { λ loop words. true };
+
+    ghost truths = { λ words. words_say words.0.now };
+
+    fn is_true(&self, atom: u8, position: usize) -> bool {
+        let word = self
+            .0
+            .get(position)
+            .map_or(0, |word| u32::from_le_bytes(*word));
+        (word >> atom) % 2 == 1
+    }
 }

@@ -1,0 +1,81 @@
+// Runs that are read off up to the loop's end, whatever says which atoms are true there.
+ghost use Rattle.std.specs.Prelude.{◌≡◌, ℕ, ◌<◌, Bool, true, ⊤};
+ghost use Rattle.runs.specs.Looping.{looped};
+
+use crate::source::RunSource;
+use std::alloc::AllocError;
+
+// How many atoms there are.
+pub(crate) const ATOMS: u16 = 32;
+
+// What says which atoms are true at which positions. No other crate can name it.
+pub trait Positions {
+    // Whether a run may have a loop of this length.
+    ghost fits: { ℕ → Self → Bool };
+
+    // The truth of an atom at a position.
+    ghost truths: { Self → ℕ → ℕ → Bool };
+
+    // Asked of the positions up to the loop's end alone.
+    fn is_true(&self, atom: u8, position: usize) -> bool
+        requires atom { atom < 32 }
+        requires fits { (loop : ℕ) × (fits loop self.now ≡ true) }
+        ensures { result ≡ truths self.now atom position };
+}
+
+// A run that is read off the positions up to its loop's end.
+pub struct Looped<P: Positions> {
+    pub(crate) stem: u16,
+    pub(crate) loop_length: u16,
+    pub(crate) positions: P,
+    ghost turns: { 0 < loop_length },
+    ghost fitting: { P.fits loop_length positions ≡ true },
+}
+
+// By hand, since no derive copies ghost fields beside a type parameter.
+impl<P: Positions + Copy> Clone for Looped<P> {
+    ghost is_clone = { λ run copy. copy ≡ run };
+
+    ghost is_infallible = { λ _. ⊤ };
+
+    fn clone(&self) -> Result<Self, AllocError> {
+        Ok(*self)
+    }
+}
+
+impl<P: Positions + Copy> Copy for Looped<P> {}
+
+impl<P: Positions> Looped<P> {
+    // The run that has one position, over and over.
+    pub(crate) fn of_one_position(positions: P) -> Self
+        requires { P.fits 1 positions ≡ true }
+        ensures stem { result.stem ≡ 0 }
+        ensures loops { result.loop_length ≡ 1 }
+        ensures positions { result.positions ≡ positions }
+    {
+        Looped {
+            stem: 0,
+            loop_length: 1,
+            positions,
+        }
+    }
+}
+
+impl<P: Positions> RunSource for Looped<P> {
+    ghost meaning = { λ run. looped run.stem run.loop_length (P.truths run.positions) };
+
+    fn stem(&self) -> u16 {
+        self.stem
+    }
+
+    fn loop_length(&self) -> u16 {
+        self.loop_length
+    }
+
+    #[tactic(auto, using(crate::proofs::Told::told_tested, std::proofs::lemmas::Bool::Decides::nat_tests))]
+    fn says(&self, atom: u8, position: usize) -> bool {
+        u16::from(atom) < ATOMS
+            && position < usize::from(self.stem) + usize::from(self.loop_length)
+            && self.positions.is_true(atom, position)
+    }
+}
