@@ -1,15 +1,12 @@
 // Reads the front of a file: what a case is told before it is sealed.
 ghost use Rattle.std.specs.Prelude.{◌≡◌};
-ghost use Rattle.cases.specs.Calls.{form, assume};
 ghost use Rattle.cases.specs.Model.{opened};
-ghost use Rattle.files.specs.Faults.{placed};
 ghost use Rattle.files.specs.Reading.{front};
 
-use crate::fault::{Cause, ErrorAt, Fault, RecordFault, at};
-use crate::payload::{Form, FrontRecord};
+use crate::fault::{Cause, Fault, RecordFault, at};
+use crate::payload::FrontRecord;
 use crate::record::Records;
 use cases::OpenCase;
-use refusals::Refusal;
 
 // Makes the calls that the records ask for, up to the seal record, and answers the offset behind it.
 pub fn read_front(case: &mut OpenCase, file: &[u8]) -> Result<usize, Fault>
@@ -20,7 +17,10 @@ pub fn read_front(case: &mut OpenCase, file: &[u8]) -> Result<usize, Fault>
         let record = record?;
         // a call answers a number or a place, which reading needs no more
         match at(record.offset, FrontRecord::try_from(record))? {
-            FrontRecord::FormRecord(form) => make_form_call(case, form, record.offset)?,
+            FrontRecord::FormRecord(form) => at(
+                record.offset,
+                case.form(form.kind, form.left, form.right),
+            )?,
             FrontRecord::AssumeRecord(formula) => at(record.offset, case.assume(formula))?,
             FrontRecord::SealRecord => return Ok(record.behind),
         };
@@ -29,16 +29,4 @@ pub fn read_front(case: &mut OpenCase, file: &[u8]) -> Result<usize, Fault>
         cause: Cause::Record(RecordFault::NoSeal),
         offset: file.len(),
     })
-}
-
-// The call of a record that has a formula entered.
-fn make_form_call(
-    case: &mut OpenCase,
-    request: Form,
-    offset: usize,
-) -> Result<u16, ErrorAt<Refusal>>
-    ensures answer { result ≡ placed offset (form (opened case.old) request.kind request.left request.right).answer }
-    ensures after { opened case.new ≡ (form (opened case.old) request.kind request.left request.right).after }
-{
-    at(offset, case.form(request.kind, request.left, request.right))
 }
