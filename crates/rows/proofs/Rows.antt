@@ -1,9 +1,9 @@
 -- Rows by their bits: what words a row has, what a row of a function says, and that rows with the same bits are equal.
-use Rattle.std.proofs.Common.{◌≡◌, ℕ, zero, suc, ◌+◌, ◌-◌, ◌*◌, ◌/◌, ◌%◌, ◌^◌, ◌<◌, ◌≤◌, Bool, true, false, not, ◌&&◌, ◌||◌, eqb, ltb, List, [], ◌∷◌, length, get_or, set, sym, refl, ap, ◌∙◌, subst, ap₂, ⊎_elim, pow-suc, arith}
+use Rattle.std.proofs.Common.{◌≡◌, ℕ, zero, suc, ◌+◌, ◌-◌, ◌*◌, ◌/◌, ◌%◌, ◌^◌, ◌<◌, ◌≤◌, Bool, true, false, cond, not, ◌&&◌, ◌||◌, eqb, ltb, List, [], ◌∷◌, length, get_or, sym, refl, ap, ◌∙◌, subst, ap₂, ⊎_elim, pow-suc, arith}
 use lib.Bits.{bit_and, bit_or, and_lt, or_lt}
 use lib.Count.{count_leading_zeros, leading_length}
-use Rattle.std.proofs.lemmas.List.{get_or_past, length-set, get_or-set_same, get_or-set_other}
-use Rattle.std.proofs.lemmas.Bool.{cases_lt, cases_eq, lt-leb, le-leb, and_right, and_left, and_from, ne_eqb, cases_Bool, both_ways}
+use Rattle.std.proofs.lemmas.List.{get_or_past}
+use Rattle.std.proofs.lemmas.Bool.{cases_lt, cases_eq, lt-leb, le-leb, and_right, and_left, and_from, ne_eqb, eq-eqb, cases_Bool, both_ways}
 use Rattle.std.proofs.lemmas.Bool.Decides.{nat_tests}
 use Rattle.rows.specs.Row.{testBit, low_ones, bit, row_of, all_from, Ends}
 use Rattle.rows.proofs.Bits.{bit_zero, bit_half, bit_shl, bit_above, bit_top, bit_one, bit_pack, testBit_and, testBit_or, bit_not, pack_lt, is_pack}
@@ -149,47 +149,29 @@ says_earlier row k fit =
     or_false true = refl
     or_false false = refl
 
--- ---- a row with one word written
-
-pub set_row : (row : List ℕ) (m w : ℕ) (g : ℕ → Bool) → length row ≡ 4 → m < 4 → Says w m g
-    → ((k : ℕ) → k < 4 → (k ≡ m → ⊥) → Says (get_or row k 0) k g) → set row m w ≡ row_of g
-set_row row m w g n h here there = is_row_list (set row m w) g (length-set row m w ∙ n) word
-  where
-    word : (k : ℕ) → k < 4 → Says (get_or (set row m w) k 0) k g
-    word k l =
-        ⊎_elim
-        (λ e. subst (λ x. Says (get_or (set row m w) x 0) x g) (sym e)
-        (subst (λ x. Says x m g) (sym (get_or-set_same row m w 0 (omega arith))) here))
-        (λ ne. subst (λ x. Says x k g) (sym (get_or-set_other row m k w 0 ne)) (there k l ne)) (cases_eq k m)
-
--- the word of one bit
-pub says_one : (i : ℕ) → Says ((1 * 2 ^ (i % 64)) % 2 ^ 64) (i / 64) (λ j. eqb j i)
-says_one i = record { fits = omega arith; at = λ j h. bit_one 64 (i % 64) j h ∙ grind (arith, nat_tests) }
+-- ---- a row with one bit, or none
 
 -- a word of no bits
 pub zero_says : (k : ℕ) (f : ℕ → Bool) → ((i : ℕ) → i < 64 → f (64 * k + i) ≡ false) → Says 0 k f
 zero_says k f none = record { fits = omega arith; at = λ i h. bit_zero i ∙ sym (none i h) }
 
+-- the word k of the row that is true at i alone, if `truth` is
+pub says_place : (truth : Bool) (i k : ℕ) → Says (cond (truth && eqb k (i / 64)) ((1 * 2 ^ (i % 64)) % 2 ^ 64) 0) k (λ j. truth && eqb j i)
+says_place false i k = zero_says k (λ j. false) (λ j h. refl)
+says_place true i k =
+    ⊎_elim
+    (λ (e : k ≡ i / 64).
+    subst (λ b. Says (cond b ((1 * 2 ^ (i % 64)) % 2 ^ 64) 0) k (λ j. eqb j i)) (sym (eq-eqb k (i / 64) e))
+    (record { fits = omega arith; at = λ j h. bit_one 64 (i % 64) j h ∙ grind (arith, nat_tests) }))
+    (λ ne.
+    subst (λ b. Says (cond b ((1 * 2 ^ (i % 64)) % 2 ^ 64) 0) k (λ j. eqb j i)) (sym (ne_eqb k (i / 64) ne))
+    (zero_says k (λ j. eqb j i) (λ j h. ne_eqb (64 * k + j) i (λ e. ne (omega arith)))))
+    (cases_eq k (i / 64))
+
 pub empty_row : (f : ℕ → Bool) → ((i : ℕ) → i < 256 → f i ≡ false) → 0 ∷ 0 ∷ 0 ∷ 0 ∷ [] ≡ row_of f
 empty_row f none =
     is_row (zero_says 0 f (λ i h. none (64 * 0 + i) (omega arith))) (zero_says 1 f (λ i h. none (64 * 1 + i) (omega arith)))
     (zero_says 2 f (λ i h. none (64 * 2 + i) (omega arith))) (zero_says 3 f (λ i h. none (64 * 3 + i) (omega arith)))
-
-zeros_at : (k : ℕ) → get_or {A = ℕ} (0 ∷ 0 ∷ 0 ∷ 0 ∷ []) k 0 ≡ 0
-zeros_at zero = refl
-zeros_at (suc zero) = refl
-zeros_at (suc (suc zero)) = refl
-zeros_at (suc (suc (suc zero))) = refl
-zeros_at (suc (suc (suc (suc k)))) = refl
-
--- the row of one bit
-pub place_row : (truth : Bool) (i : ℕ) → truth ≡ true → i < 256
-    → set (0 ∷ 0 ∷ 0 ∷ 0 ∷ []) (i / 64) ((1 * 2 ^ (i % 64)) % 2 ^ 64) ≡ row_of (λ j. truth && eqb j i)
-place_row truth i is h =
-    set_row (0 ∷ 0 ∷ 0 ∷ 0 ∷ []) (i / 64) _ _ refl (omega arith)
-    (says_like (says_one i) (λ j l. ap (λ b. b && eqb (64 * (i / 64) + j) i) (sym is)))
-    (λ k l ne. subst (λ x. Says x k (λ j. truth && eqb j i)) (sym (zeros_at k))
-    (zero_says k (λ j. truth && eqb j i) (λ j m. and_right truth (eqb (64 * k + j) i) (ne_eqb (64 * k + j) i (λ e. ne (omega arith))))))
 
 -- ---- the last bit of a row
 

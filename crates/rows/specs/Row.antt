@@ -22,6 +22,10 @@ bit row i = testBit (slice_index row (i / 64)) (i % 64)
 unfoldable pub row_of : (ℕ → Bool) → List ℕ
 row_of f = pack 64 f ∷ pack 64 (λ i. f (64 + i)) ∷ pack 64 (λ i. f (128 + i)) ∷ pack 64 (λ i. f (192 + i)) ∷ []
 
+-- the row that says f i of each position i below n, and false of the others
+abbrev pub row_up_to : ℕ → (ℕ → Bool) → List ℕ
+row_up_to n f = row_of (λ i. nat_lt i n && f i)
+
 -- f holds at each of the n positions from k on
 unfoldable pub all_from : (ℕ → Bool) → ℕ → ℕ → Bool
 all_from f k zero = true

@@ -1,8 +1,8 @@
 // Rows: the truth of one formula at the positions 0 to 255 of a run, in four words of 64 bits, lowest first.
 #![tactic(auto)]
 
-ghost use Rattle.std.specs.Prelude.{◌≡◌, ◌+◌, ◌-◌, min, not, ◌&&◌, ◌||◌, ◌==◌, nat_lt};
-ghost use Rattle.rows.specs.Row.{bit, row_of, all_from, after};
+ghost use Rattle.std.specs.Prelude.{◌≡◌, ◌+◌, ◌-◌, min, not, ◌&&◌, ◌||◌, ◌==◌};
+ghost use Rattle.rows.specs.Row.{bit, row_of, row_up_to, all_from, after};
 
 use words::{and, earlier, end, mask, minus, or, place};
 
@@ -43,14 +43,14 @@ pub fn put(row: Row, position: usize, truth: bool) -> Row
 
 // Where `a` is false or `b` is true, up to the loop's end.
 pub fn implies(a: Row, b: Row, lasso: Lasso) -> Row
-    ensures { result ≡ row_of (λ i. nat_lt i (lasso.stem + lasso.loop_length) && (not (bit a i) || bit b i)) }
+    ensures { result ≡ row_up_to (lasso.stem + lasso.loop_length) (λ i. not (bit a i) || bit b i) }
 {
     minus(mask(lasso.positions()), minus(a, b))
 }
 
 // Where `a` is true at the next position, which at the loop's end is its first.
 pub fn next(a: Row, lasso: Lasso) -> Row
-    ensures { result ≡ row_of (λ i. nat_lt i (lasso.stem + lasso.loop_length) && bit a (after lasso.stem (lasso.stem + lasso.loop_length) i)) }
+    ensures { result ≡ row_up_to (lasso.stem + lasso.loop_length) (λ i. bit a (after lasso.stem (lasso.stem + lasso.loop_length) i)) }
 {
     let last = lasso.positions() - 1;
     put(and(mask(last), earlier(a)), last, at(a, lasso.stem))
@@ -58,7 +58,7 @@ pub fn next(a: Row, lasso: Lasso) -> Row
 
 // Where `a` is true from there on, through the whole loop.
 pub fn always(a: Row, lasso: Lasso) -> Row
-    ensures { result ≡ row_of (λ i. nat_lt i (lasso.stem + lasso.loop_length) && all_from (bit a) (min i lasso.stem) (lasso.stem + lasso.loop_length - min i lasso.stem)) }
+    ensures { result ≡ row_up_to (lasso.stem + lasso.loop_length) (λ i. all_from (bit a) (min i lasso.stem) (lasso.stem + lasso.loop_length - min i lasso.stem)) }
 {
     let full = mask(lasso.positions());
     let fails = end(minus(full, a));

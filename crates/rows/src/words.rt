@@ -2,7 +2,7 @@
 ghost use Rattle.std.specs.Prelude.{◌≡◌, ◌+◌, not, ◌&&◌, ◌||◌, ◌==◌, nat_lt};
 ghost use Rattle.rows.specs.Row.{low_ones, bit, row_of, Ends};
 
-use crate::{BITS, EMPTY, POSITIONS, Row};
+use crate::{BITS, Row, WORDS};
 use std::array;
 
 // The word whose `n` lowest bits are set, or all where it has no more.
@@ -19,7 +19,7 @@ pub(crate) fn mask(n: usize) -> Row
     array::from_fn(|index| ones(n.saturating_sub(BITS * index)))
 }
 
-// Where `a` and `b` are true.
+// Where `a` and `b` are true. This and the next two are one call of the library: what differs is its closure.
 pub(crate) fn and(a: Row, b: Row) -> Row
     ensures { result ≡ row_of (λ i. bit a i && bit b i) }
 {
@@ -44,21 +44,26 @@ pub(crate) fn minus(a: Row, b: Row) -> Row
 pub(crate) fn place(truth: bool, position: usize) -> Row
     ensures { result ≡ row_of (λ j. truth && j == position) }
 {
-    let mut row = EMPTY;
-    if truth && position < POSITIONS {
-        row[position / BITS] = 1 << (position % BITS);
-    }
-    row
+    array::from_fn(|index| {
+        if truth && index == position / BITS {
+            1 << (position % BITS)
+        } else {
+            0
+        }
+    })
 }
 
 // One past the last position where `row` is true, or 0.
+// A loop, since `rposition` gives an index alone: the word is then read again from memory, and `always` took 6.6 ns against 5.2.
 pub(crate) fn end(row: Row) -> usize
     ensures { Ends row result }
 {
-    match row.iter().rposition(|word| *word != 0) {
-        Some(index) => BITS * (index + 1) - row[index].leading_zeros() as usize,
-        None => 0,
+    for index in (0..WORDS).rev() {
+        if row[index] != 0 {
+            return BITS * (index + 1) - row[index].leading_zeros() as usize;
+        }
     }
+    0
 }
 
 // Where `a` is true one position on.

@@ -1,13 +1,13 @@
 -- The rows of formulas along a run, and the words that hold them.
-use Rattle.std.specs.Prelude.{ℕ, ◌+◌, ◌*◌, Bool, cond, ◌&&◌, List, [], ◌∷◌, ◌++◌, length, take, drop, nat_le, nat_lt}
+use Rattle.std.specs.Prelude.{ℕ, ◌+◌, ◌*◌, Bool, cond, ◌&&◌, List, [], ◌∷◌, ◌++◌, length, take, drop, nat_le}
 use Rattle.logic.specs.Formula.{Formula}
 use Rattle.logic.specs.Run.{Run}
 use Rattle.logic.specs.Decide.{truth}
-use Rattle.rows.specs.Row.{bit, row_of}
+use Rattle.rows.specs.Row.{bit, row_up_to}
 
 -- the row of a formula: its truth at each position up to the loop's end, and false behind that
 unfoldable pub truth_row : Run → Formula → List ℕ
-truth_row r A = row_of (λ i. nat_lt i (r.stem + r.loop) && truth r A i)
+truth_row r A = row_up_to (r.stem + r.loop) (truth r A)
 
 -- the rows of formulas, one behind the other
 unfoldable pub rows_along : Run → List Formula → List ℕ

@@ -11,7 +11,7 @@ pub fn first_false(words: &[u64], formulas: &[u16], positions: usize) -> Option<
     ensures { result ≡ first_failing (row_says words.now) positions 0 formulas.now }
 {
     let mut found = None;
-    // A labelled exit, and no chain of iterators: the project asks for this form of the language by name.
+    // Left by a label, and no chain of iterators: a rule of the project (docs/ARCHITECTURE.md).
     'search: for (place, formula) in formulas.iter().enumerate() {
         for position in 0..positions {
             if !truth_at(words, *formula, position) {

@@ -33,7 +33,7 @@ impl<'a, R: RunSource> Along<'a, R> {
         ensures { result ≡ row_of (told (R.RunSource.meaning self.now.source.now) atom) }
     {
         let mut row = EMPTY;
-        // A fold's closure would need clauses of its own here, and the check wants a name for each longer row.
+        // No fold: tried, and its closure needs clauses of its own. And the check wants a name for each longer row.
         for position in 0..self.lasso.positions() {
             let more = put(row, position, self.source.says(atom, position));
             row = more;

@@ -1,14 +1,9 @@
 -- One bit is set in its word, or none where there is nothing to place or no place for it.
-use Rattle.std.proofs.Common.{eqb, ⊎_elim, arith, rules}
-use Rattle.std.proofs.lemmas.Bool.{and_left, and_right, ne_eqb}
-use Rattle.rows.proofs.Rows.{place_row, empty_row}
+use Rattle.std.proofs.Common.{◌/◌, ◌%◌, ◌*◌, ◌^◌, cond, ◌&&◌, eqb, rules}
+use Rattle.rows.proofs.Rows.{made_row, says_place}
 use Rattle.rows.proofs.words.place.Goals as goal
 
-pub returns-then-position-lt-POSITIONS : goal.returns-then-position-lt-POSITIONS
-returns-then-position-lt-POSITIONS c = place_row c.args.truth c.args.position (search rules) (omega arith)
-
-pub returns-else-truth : goal.returns-else-truth
-returns-else-truth c =
-    empty_row _
-    (λ j h. ⊎_elim (λ past. and_right c.args.truth (eqb j c.args.position) (ne_eqb j c.args.position (λ e. omega (arith, past.1))))
-    (λ no. and_left c.args.truth (eqb j c.args.position) no) c.else-truth.either)
+pub returns : goal.returns
+returns c =
+    made_row c.from_fn.result (λ k. cond (c.args.truth && eqb k (c.args.position / 64)) ((1 * 2 ^ (c.args.position % 64)) % 2 ^ 64) 0)
+    c.from_fn.ensures.items.long (λ k h. search rules) (λ k h. says_place c.args.truth c.args.position k)
