@@ -1,9 +1,9 @@
 // The stages of a case.
 
-// It takes formulas and assumptions.
+// An open case takes formulas and assumptions.
 #[derive(Clone, Copy)]
 pub struct Open;
 
-// Its assumptions stay as they are.
+// A sealed case has the assumptions that it had when it was sealed.
 #[derive(Clone, Copy)]
 pub struct Sealed;

@@ -17,6 +17,7 @@ use std::alloc::{AllocError, Global};
 pub const FILE_MOST: usize = 16_384;
 
 // Reads a file into a new case, and writes the listing into a buffer: its length is answered.
+#[tactic(auto, using(crate::proofs::Listed::promises, crate::proofs::Fitting::listings_fit))]
 pub fn list_file(case: OpenCase, file: &[u8], buffer: &mut [u8]) -> Result<usize, ListingRefusal>
     ensures answer { result ≡ written_answer (file_listing (opened case) file.now) buffer.old }
     ensures after { buffer.new ≡ written_after (file_listing (opened case) file.now) buffer.old }
@@ -33,6 +34,7 @@ pub fn listing_of(heap: Global, file: &[u8]) -> Result<Vec<u8>, AllocError>
 {
     let mut buffer = vec![in heap; 0; LISTING_MOST]?;
     let case = OpenCase::new(heap)?;
+    // The buffer has room for every listing, so that the refusal never comes.
     let Ok(length) = list_file(case, file, &mut buffer) else {
         unreachable!()
     };

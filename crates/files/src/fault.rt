@@ -92,6 +92,7 @@ impl<E: Into<Cause>> From<ErrorAt<E>> for Fault {
 
 impl Fault {
     // 1 for a record, 2 for a payload, 3 for the case.
+    // By a match: variants that hold values take no explicit numbers.
     pub fn layer(self) -> u8
         ensures { result ≡ layer_of self.cause }
     {
@@ -102,6 +103,7 @@ impl Fault {
         }
     }
 
+    // The number that a caller is told. By a name, and no `From`, so that a call says which number it is.
     pub fn number(self) -> u8
         ensures { result ≡ cause_number self.cause }
     {

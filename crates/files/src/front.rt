@@ -3,7 +3,7 @@ ghost use Rattle.std.specs.Prelude.{◌≡◌};
 ghost use Rattle.cases.specs.Model.{opened};
 ghost use Rattle.files.specs.Reading.{front};
 
-use crate::fault::{Cause, Fault, RecordFault, at};
+use crate::fault::{Fault, RecordFault, at};
 use crate::payload::FrontRecord;
 use crate::record::Records;
 use cases::OpenCase;
@@ -25,8 +25,5 @@ pub fn read_front(case: &mut OpenCase, file: &[u8]) -> Result<usize, Fault>
             FrontRecord::SealRecord => return Ok(record.behind),
         };
     }
-    Err(Fault {
-        cause: Cause::Record(RecordFault::NoSeal),
-        offset: file.len(),
-    })
+    at(file.len(), Err(RecordFault::NoSeal)).map_err(Fault::from)
 }

@@ -17,7 +17,7 @@ pub(crate) struct Record<'a> {
     pub behind: usize,
 }
 
-// The records of a file from an offset on. A fault is the last item, since nothing tells where the next head would stand.
+// The records of a file from an offset on. A fault is the last item: nothing tells where the next head would stand.
 #[derive(Drop)]
 pub(crate) struct Records<'a> {
     file: &'a [u8],
@@ -56,7 +56,7 @@ fn record_at(file: &[u8], offset: usize) -> Result<Option<Record<'_>>, RecordFau
     match bytes {
         [] => Ok(None),
         [length_low, length_high, kind_low, kind_high, rest @ ..] => {
-            let length = u16::from_le_bytes([*length_low, *length_high]) as usize;
+            let length = usize::from(u16::from_le_bytes([*length_low, *length_high]));
             let payload = rest.get(..length).ok_or(RecordFault::PayloadCut)?;
             Ok(Some(Record {
                 offset,

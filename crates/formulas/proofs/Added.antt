@@ -7,7 +7,7 @@ use Rattle.std.proofs.lemmas.Bool.{cond_both}
 use Rattle.refusals.specs.declared.Refusal.{Refusal}
 use Rattle.logic.specs.Formula.{Formula}
 use Rattle.formulas.specs.declared.entry.Entry.{Entry}
-use Rattle.formulas.specs.Adding.{Distinct, place, number_of, add_answer, add_after}
+use Rattle.formulas.specs.Adding.{Distinct, place, number_for, add_answer, add_after}
 use Rattle.formulas.specs.Entries.{asked}
 use Rattle.formulas.specs.Forming.{after_for, form_after}
 use Rattle.formulas.proofs.Members.{distinct_push, every_push}
@@ -28,7 +28,7 @@ form_longer fs kind left right = longer (asked (length fs) kind left right)
     longer (Err x) = omega arith
 
 -- a number or a refusal, where the refusal stands for none
-pub number_or : {X E : Type 0} (most : ℕ) (full : E) (xs : List X) (o : Option ℕ) → ok_or (number_of most xs o) full ≡ add_answer most full xs o
+pub number_or : {X E : Type 0} (most : ℕ) (full : E) (xs : List X) (o : Option ℕ) → ok_or (number_for most xs o) full ≡ add_answer most full xs o
 number_or most full xs (Some i) = refl
 number_or most full xs None = by (ltb (length xs) most)
   where

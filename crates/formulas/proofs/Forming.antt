@@ -11,7 +11,7 @@ use Rattle.logic.specs.Formula.{Formula, falsum}
 use Rattle.logic.specs.Same.{same}
 use Rattle.formulas.specs.declared.entry.Entry.{Entry}
 use Rattle.formulas.specs.declared.entry.Entry.TheVariants.{False}
-use Rattle.formulas.specs.Adding.{Distinct, place, number_of, add_answer, add_after}
+use Rattle.formulas.specs.Adding.{Distinct, place, number_for, add_answer, add_after}
 use Rattle.formulas.specs.Entries.{placed, asked, Lower}
 use Rattle.formulas.specs.Decode.{of_entry, formula_at, decoded}
 use Rattle.formulas.specs.Forming.{numbered, answer_for, after_for, form_answer, form_after}
@@ -151,7 +151,7 @@ formed_new es low distinct kind left right e is found room =
 
 -- entering what is asked for, by where it stands already
 pub formed : (es : List Entry) (low : Lower es) (distinct : Distinct es) (kind left right : ℕ) (e : Entry) (is : asked (length es) kind left right ≡ Ok e)
-    → (o : Option ℕ) → place entry_eq es e ≡ o → Formed es (add_after 1024 es e o) kind left right (ok_or (number_of 1024 es o) FormulasFull)
+    → (o : Option ℕ) → place entry_eq es e ≡ o → Formed es (add_after 1024 es e o) kind left right (ok_or (number_for 1024 es o) FormulasFull)
 formed es low distinct kind left right e is (Some i) found = formed_old es low distinct kind left right e is i found
 formed es low distinct kind left right e is None found =
     let by : Bool → Type 0 = λ b. Formed es (cond b (es ++ e ∷ []) es) kind left right (ok_or (cond b (Some (length es)) None) FormulasFull) in

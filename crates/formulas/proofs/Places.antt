@@ -18,9 +18,6 @@ module _ {X : Type 0} (eq : X → X → Bool) (tells : Tells eq) where
   differ x y h = elim (cases_Bool (eq x y)) [ inl t ↦ absurd (h (tells.sound x y t)) | inr f ↦ f ]
 
   module _ (ys : List X) (x : X) where
-    likes : X → Bool
-    likes y = eq y x
-
     -- x passes where it stands
     passes : (i : ℕ) → slice_get ys i ≡ Some x → eq (get_or ys i x) x ≡ true
     passes i is =

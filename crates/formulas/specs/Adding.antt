@@ -16,9 +16,9 @@ add_answer most full xs (Some i) = Ok i
 add_answer most full xs None = cond (nat_lt (length xs) most) (Ok (length xs)) (Err full)
 
 -- the same without a refusal: none where the list is full
-abbrev pub number_of : {X : Type 0} → ℕ → List X → Option ℕ → Option ℕ
-number_of most xs (Some i) = Some i
-number_of most xs None = cond (nat_lt (length xs) most) (Some (length xs)) None
+abbrev pub number_for : {X : Type 0} → ℕ → List X → Option ℕ → Option ℕ
+number_for most xs (Some i) = Some i
+number_for most xs None = cond (nat_lt (length xs) most) (Some (length xs)) None
 
 -- the list afterwards: what is new stands at its end
 abbrev pub add_after : {X : Type 0} → ℕ → List X → X → Option ℕ → List X

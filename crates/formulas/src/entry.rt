@@ -4,6 +4,7 @@ ghost use Rattle.formulas.specs.Entries.{asked, kind_numbered};
 
 use refusals::Refusal;
 
+// Operands by number, and no boxes: formulas share their parts, and nothing is allocated after a list is made.
 #[derive(Clone, Copy, PartialEq, Eq, Debug)]
 pub enum Entry {
     False,
@@ -41,7 +42,7 @@ impl TryFrom<u8> for Kind {
 }
 
 impl Entry {
-    // The entry that a kind and two fields ask for, where `entered` have been entered.
+    // The entry that a kind and two fields ask for. No `TryFrom`, since it depends on how many are entered.
     pub(crate) fn asked_for(
         entered: usize,
         kind: u8,

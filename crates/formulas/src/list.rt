@@ -4,15 +4,67 @@ ghost use Rattle.formulas.specs.Entries.{Lower};
 
 use crate::entry::Entry;
 use crate::table::Table;
-
-mod methods;
+use refusals::Refusal;
+use std::alloc::{AllocError, Global};
 
 // The most formulas that a list holds.
-pub(crate) const MOST: u16 = 1024;
+const FORMULAS: u16 = 1024;
 
+// Clauses see entries and formulas, so there is no one value for an `impl Model`.
 #[derive(Drop)]
 pub struct FormulaList {
-    table: Table<Entry, MOST>,
+    table: Table<Entry, FORMULAS>,
     ghost distinct: { Distinct table },
     ghost lower: { Lower table },
+}
+
+impl FormulaList {
+    ghost use Rattle.std.specs.Prelude.{◌≡◌, [], length, IfOk};
+    ghost use Rattle.std.specs.List.{slice_get};
+    ghost use Rattle.formulas.specs.Adding.{Distinct};
+    ghost use Rattle.formulas.specs.Forming.{form_answer, form_after};
+    ghost use Rattle.formulas.specs.Listed.{entries_of, formulas_of};
+
+    // An empty list, with memory for all that it will ever hold.
+    #[tactic(auto, unfolding(crate::specs::Decode::decoded))]
+    pub fn new(heap: Global) -> Result<FormulaList, AllocError>
+        ensures { IfOk result (λ l. formulas_of l ≡ []) }
+    {
+        Ok(FormulaList {
+            table: Table::new(heap)?,
+        })
+    }
+
+    // The entries, by number.
+    pub fn entries(&self) -> &[Entry]
+        ensures { result.now ≡ entries_of self.now }
+    {
+        self.table.as_slice()
+    }
+
+    #[tactic(auto, using(crate::proofs::Decoded::decoded_length))]
+    pub fn len(&self) -> usize
+        ensures { result ≡ length (formulas_of self.now) }
+    {
+        self.entries().len()
+    }
+
+    // The entry with a number.
+    pub fn get(&self, number: u16) -> Option<Entry>
+        ensures { result ≡ slice_get (entries_of self.now) number }
+    {
+        self.table.get(number)
+    }
+
+    // The number of the formula of this kind with these fields, which is entered if it is not there.
+    // No two numbers stand for one formula, so formulas are compared by their numbers.
+    // Three parameters and no struct: the public call keeps those that it has.
+    pub fn form(&mut self, kind: u8, left: u16, right: u16) -> Result<u16, Refusal>
+        ensures answer { result ≡ form_answer (formulas_of self.old) kind left right }
+        ensures after { formulas_of self.new ≡ form_after (formulas_of self.old) kind left right }
+        ensures distinct { Distinct (formulas_of self.new) }
+    {
+        let entry = Entry::asked_for(self.len(), kind, left, right)?;
+        self.table.enter(entry).ok_or(Refusal::FormulasFull)
+    }
 }

@@ -1,7 +1,7 @@
-// A list in which nothing stands twice, in memory that is set aside once.
+// A list whose memory is set aside once, and to which nothing is added that is there already.
 ghost use Rattle.std.specs.Prelude.{◌≡◌, ◌<◌, [], IfOk, IfSome};
 ghost use Rattle.std.specs.List.{slice_get};
-ghost use Rattle.formulas.specs.Adding.{place, number_of, add_after};
+ghost use Rattle.formulas.specs.Adding.{place, number_for, add_after};
 
 use std::alloc::{AllocError, Global};
 use std::marker::Model;
@@ -23,7 +23,7 @@ impl<T, const MOST: u16> Model for Table<T, MOST> {
     ghost invariant = { λ t. (vec_len t.items ≤ MOST) × (MOST ≤ vec_capacity t.items) };
 }
 
-impl<T: Copy + PartialEq, const MOST: u16> Table<T, MOST> {
+impl<T, const MOST: u16> Table<T, MOST> {
     // An empty table, with memory for all that it will ever hold.
     pub fn new(heap: Global) -> Result<Table<T, MOST>, AllocError>
         ensures { IfOk result (λ t. t ≡ []) }
@@ -38,7 +38,9 @@ impl<T: Copy + PartialEq, const MOST: u16> Table<T, MOST> {
     {
         self.items.as_slice()
     }
+}
 
+impl<T: Copy + PartialEq, const MOST: u16> Table<T, MOST> {
     // The item with a number.
     pub fn get(&self, number: u16) -> Option<T>
         ensures { result ≡ slice_get self.now number }
@@ -54,9 +56,9 @@ impl<T: Copy + PartialEq, const MOST: u16> Table<T, MOST> {
         self.items.iter().position(|old| *old == item)
     }
 
-    // The number of the first item that equals this one, which is added if there is none; or none where the table is full.
+    // The number of the first item that equals this one, which is added if there is none. None where the table is full.
     pub fn enter(&mut self, item: T) -> Option<u16>
-        ensures number { result ≡ number_of MOST self.old (place T.eq self.old item) }
+        ensures number { result ≡ number_for MOST self.old (place T.eq self.old item) }
         ensures after { self.new ≡ add_after MOST self.old item (place T.eq self.old item) }
     {
         if let Some(old) = self.find(item) {

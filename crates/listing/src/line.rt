@@ -37,7 +37,7 @@ impl Line {
         }
     }
 
-    // Adds a text.
+    // Adds a text. Each method asks for the room that it takes: with an error in its place, a line could fail.
     pub(crate) fn add(&mut self, text: &[u8])
         requires { length self.old + length text.now ≤ LINE_MOST }
         ensures { self.new ≡ self.old ++ text.now }
@@ -52,6 +52,7 @@ impl Line {
         requires { length self.old + length (decimal number) ≤ LINE_MOST }
         ensures { self.new ≡ self.old ++ decimal number }
     {
+        // by name, so that the proof does not hang on the number 10
         let is_longer = number >= 10;
         if is_longer {
             self.add_number(number / 10);

@@ -7,6 +7,7 @@ use crate::unread::Unread;
 use cases::Counts;
 
 // How many of each a case has.
+#[tactic(auto, unfolding(crate::specs::Listing::line_of_counts))]
 pub(crate) fn counts_line(counts: Counts) -> Line
     ensures { result ≡ line_of_counts counts }
 {
@@ -24,13 +25,14 @@ pub(crate) fn ending_line(ending: Result<usize, Unread>) -> Line
     ensures { result ≡ line_of_ending ending }
 {
     match ending {
-        Ok(length) => read_line(length),
-        Err(unread) => unread_line(unread),
+        Ok(length) => length_line(length),
+        Err(unread) => refusal_line(unread),
     }
 }
 
 // A file that was read to its end has a length.
-fn read_line(length: usize) -> Line
+#[tactic(auto, unfolding(crate::specs::Listing::line_of_ending))]
+fn length_line(length: usize) -> Line
     ensures { result ≡ line_of_ending (Ok length) }
 {
     let mut line = Line::new();
@@ -40,7 +42,8 @@ fn read_line(length: usize) -> Line
 }
 
 // Any other was refused at an offset, or is too long.
-fn unread_line(unread: Unread) -> Line
+#[tactic(auto, unfolding(crate::specs::Listing::line_of_ending))]
+fn refusal_line(unread: Unread) -> Line
     ensures { result ≡ line_of_ending (Err unread) }
 {
     let mut line = Line::new();

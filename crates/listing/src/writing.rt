@@ -14,7 +14,8 @@ use cases::SealedCase;
 pub const LISTING_MOST: usize = 256;
 
 // Writes the listing to the front of a buffer, and answers its length. Each line is made and measured before the
-// first is copied, so that a buffer which is too short stays as it is.
+// first is copied, so that a buffer which is too short stays as it is. Into a caller's buffer, and no `Vec`: nothing is
+// allocated after a case is made.
 #[tactic(auto, using(crate::proofs::Room::always_room))]
 pub fn write_listing(
     case: &SealedCase,

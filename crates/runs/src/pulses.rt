@@ -14,6 +14,7 @@ pub struct Pulses<'a>(&'a [[u8; 8]]);
 
 pub type PulseRun<'a> = Looped<Pulses<'a>>;
 
+// A check and a constructor for each kind of run: public calls whose clauses stay, and each names its kind's definitions.
 impl<'a> PulseRun<'a> {
     // Whether bytes give a pulse run.
     pub fn check(bytes: &[u8]) -> Result<(), RunFault>

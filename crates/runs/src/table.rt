@@ -13,7 +13,7 @@ pub struct Words<'a>(&'a [[u8; 4]]);
 
 pub type TableRun<'a> = Looped<Words<'a>>;
 
-// Each kind of run has a check and a constructor of its own, since their contracts name its definitions.
+// A check and a constructor for each kind of run: public calls whose clauses stay, and each names its kind's definitions.
 impl<'a> TableRun<'a> {
     // Whether bytes give a table run.
     pub fn check(bytes: &[u8]) -> Result<(), RunFault>

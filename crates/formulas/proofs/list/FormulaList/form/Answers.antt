@@ -6,7 +6,7 @@ use Rattle.refusals.specs.declared.Refusal.{Refusal}
 use Rattle.refusals.specs.declared.Refusal.TheVariants.{FormulasFull}
 use Rattle.formulas.specs.declared.entry.Entry.{Entry}
 use Rattle.formulas.specs.declared.list.FormulaList.{FormulaList}
-use Rattle.formulas.specs.Adding.{place, number_of}
+use Rattle.formulas.specs.Adding.{place, number_for}
 use Rattle.formulas.specs.Entries.{asked}
 use Rattle.formulas.specs.Listed.{entries_of}
 use Rattle.formulas.proofs.Decoded.{decoded_length}
@@ -35,7 +35,7 @@ entered c =
     let is = at_length s _ c.args.kind c.args.left c.args.right (c.len.ensures ∙ decoded_length _) c.asked_for.ensures c.in_ok-entry.was in
     let f = formed (entries_of s) s.lower s.distinct c.args.kind c.args.left c.args.right e is (place entry_eq (entries_of s) e) refl in
     subst (λ (o : Option ℕ). Formed (entries_of s) c.enter.new.self c.args.kind c.args.left c.args.right (ok_or o FormulasFull)) (sym c.enter.ensures.number)
-    (subst (λ (es : List Entry). Formed (entries_of s) es c.args.kind c.args.left c.args.right (ok_or (number_of 1024 (entries_of s) (place entry_eq (entries_of s) e)) FormulasFull)) (sym c.enter.ensures.after) f)
+    (subst (λ (es : List Entry). Formed (entries_of s) es c.args.kind c.args.left c.args.right (ok_or (number_for 1024 (entries_of s) (place entry_eq (entries_of s) e)) FormulasFull)) (sym c.enter.ensures.after) f)
 
 pub invariant_of-self : goal.invariant_of-self
 invariant_of-self c = let f = entered c in record { distinct = f.apart; lower = f.lower }

@@ -10,7 +10,7 @@ use Rattle.std.specs.Option.{ok_or}
 use Rattle.cases.specs.Calls.{with_assumptions}
 use Rattle.cases.specs.Model.{modelled}
 use Rattle.cases.proofs.Steps.{assume_unknown, assume_known}
-use Rattle.cases.proofs.case.methods.Case+Open.assume.Goals as goal
+use Rattle.cases.proofs.case.Case+Open.assume.Goals as goal
 
 pub returns-then-from-len : goal.returns-then-from-len
 unfolding modelled

@@ -1,7 +1,7 @@
 -- The sealed case has the open one's formulas and assumptions.
 use Rattle.std.proofs.Common.{refl}
 use Rattle.cases.specs.Model.{modelled}
-use Rattle.cases.proofs.case.methods.Case+Open.seal.Goals as goal
+use Rattle.cases.proofs.case.Case+Open.seal.Goals as goal
 
 pub returns : goal.returns
 unfolding modelled
