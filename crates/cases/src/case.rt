@@ -86,7 +86,7 @@ impl<S> Case<S> {
     ghost use Rattle.cases.specs.Model.{modelled};
     ghost use Rattle.cases.specs.Reads.{counts_of, entry_in, assumption_in};
 
-    // Enters a formula, by its kind and two fields, and answers its number.
+    // Enters a formula, by its kind and two fields, and answers its number. A public call, so its parameters stay.
     pub fn form(&mut self, kind: u8, left: u16, right: u16) -> Result<u16, Refusal>
         ensures answer { result ≡ (form (modelled self.old) kind left right).answer }
         ensures after { modelled self.new ≡ (form (modelled self.old) kind left right).after }

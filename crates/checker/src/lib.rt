@@ -16,7 +16,8 @@ use std::alloc::{AllocError, Global};
 // The most bytes that a file has.
 pub const FILE_MOST: usize = 16_384;
 
-// Reads a file into a new case, and writes the listing into a buffer: its length is answered.
+// Reads a file into a new case, and writes the listing into a caller's buffer, since nothing is allocated after a case
+// is made: its length is answered.
 #[tactic(auto, using(crate::proofs::Listed::promises, crate::proofs::Fitting::listings_fit))]
 pub fn list_file(case: OpenCase, file: &[u8], buffer: &mut [u8]) -> Result<usize, ListingRefusal>
     ensures answer { result ≡ written_answer (file_listing (opened case) file.now) buffer.old }
@@ -42,7 +43,7 @@ pub fn listing_of(heap: Global, file: &[u8]) -> Result<Vec<u8>, AllocError>
     Ok(buffer)
 }
 
-// Reads a file into a case, which is sealed in any case, and answers the file's length beside it.
+// Reads a file into a case, which is sealed in any case, and answers how that ended beside it.
 fn read_file(mut case: OpenCase, file: &[u8]) -> (SealedCase, Result<usize, Unread>)
     ensures case { sealed result.0 ≡ (checked (opened case) file.now).case }
     ensures ending { result.1 ≡ (checked (opened case) file.now).ending }

@@ -9,6 +9,7 @@ use crate::record::Records;
 use cases::SealedCase;
 
 // Makes the calls that the records from a start offset on ask for, up to the end of the file.
+#[tactic(auto, using(crate::proofs::Left::body_left))]
 pub fn read_body(case: &mut SealedCase, file: &[u8], start: usize) -> Result<(), Fault>
     ensures answer { result ≡ (body (sealed case.old) start file.now).answer }
     ensures after { sealed case.new ≡ (body (sealed case.old) start file.now).after }

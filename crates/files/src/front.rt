@@ -3,12 +3,13 @@ ghost use Rattle.std.specs.Prelude.{◌≡◌};
 ghost use Rattle.cases.specs.Model.{opened};
 ghost use Rattle.files.specs.Reading.{front};
 
-use crate::fault::{Fault, RecordFault, at};
+use crate::fault::{ErrorAt, Fault, RecordFault, at};
 use crate::payload::FrontRecord;
 use crate::record::Records;
 use cases::OpenCase;
 
 // Makes the calls that the records ask for, up to the seal record, and answers the offset behind it.
+#[tactic(auto, using(crate::proofs::Left::front_left))]
 pub fn read_front(case: &mut OpenCase, file: &[u8]) -> Result<usize, Fault>
     ensures answer { result ≡ (front (opened case.old) file.now).answer }
     ensures after { opened case.new ≡ (front (opened case.old) file.now).after }
@@ -25,5 +26,9 @@ pub fn read_front(case: &mut OpenCase, file: &[u8]) -> Result<usize, Fault>
             FrontRecord::SealRecord => return Ok(record.behind),
         };
     }
-    at(file.len(), Err(RecordFault::NoSeal)).map_err(Fault::from)
+    let unsealed = ErrorAt {
+        error: RecordFault::NoSeal,
+        offset: file.len(),
+    };
+    Err(unsealed.into())
 }

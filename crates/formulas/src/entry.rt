@@ -42,7 +42,8 @@ impl TryFrom<u8> for Kind {
 }
 
 impl Entry {
-    // The entry that a kind and two fields ask for. No `TryFrom`, since it depends on how many are entered.
+    // The entry that a kind and two fields ask for, as `form` is asked.
+    // No `TryFrom`, since it depends on how many are entered.
     pub(crate) fn asked_for(
         entered: usize,
         kind: u8,

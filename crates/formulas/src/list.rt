@@ -10,7 +10,7 @@ use std::alloc::{AllocError, Global};
 // The most formulas that a list holds.
 const FORMULAS: u16 = 1024;
 
-// Clauses see entries and formulas, so there is no one value for an `impl Model`.
+// Ghost fields, and no `impl Model`: proofs of `cases` rest on them, and a model's invariant is not seen outside.
 #[derive(Drop)]
 pub struct FormulaList {
     table: Table<Entry, FORMULAS>,
@@ -58,7 +58,7 @@ impl FormulaList {
 
     // The number of the formula of this kind with these fields, which is entered if it is not there.
     // No two numbers stand for one formula, so formulas are compared by their numbers.
-    // Three parameters and no struct: the public call keeps those that it has.
+    // Three parameters and no struct, the kind by its number: the public call keeps those that it has.
     pub fn form(&mut self, kind: u8, left: u16, right: u16) -> Result<u16, Refusal>
         ensures answer { result ≡ form_answer (formulas_of self.old) kind left right }
         ensures after { formulas_of self.new ≡ form_after (formulas_of self.old) kind left right }

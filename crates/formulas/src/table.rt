@@ -40,14 +40,16 @@ impl<T, const MOST: u16> Table<T, MOST> {
     }
 }
 
-impl<T: Copy + PartialEq, const MOST: u16> Table<T, MOST> {
+impl<T: Copy, const MOST: u16> Table<T, MOST> {
     // The item with a number.
     pub fn get(&self, number: u16) -> Option<T>
         ensures { result ≡ slice_get self.now number }
     {
         self.items.get(usize::from(number)).copied()
     }
+}
 
+impl<T: Copy + PartialEq, const MOST: u16> Table<T, MOST> {
     // The number of the first item that equals this one.
     fn find(&self, item: T) -> Option<usize>
         ensures number { result ≡ place T.eq self.now item }

@@ -30,7 +30,7 @@ pub(crate) fn ending_line(ending: Result<usize, Unread>) -> Line
     }
 }
 
-// A file that was read to its end has a length.
+// The line of a file that was read to its end: its length.
 #[tactic(auto, unfolding(crate::specs::Listing::line_of_ending))]
 fn length_line(length: usize) -> Line
     ensures { result ≡ line_of_ending (Ok length) }
@@ -41,7 +41,7 @@ fn length_line(length: usize) -> Line
     line
 }
 
-// Any other was refused at an offset, or is too long.
+// The line of any other file: what was refused and where, or that it is too long.
 #[tactic(auto, unfolding(crate::specs::Listing::line_of_ending))]
 fn refusal_line(unread: Unread) -> Line
     ensures { result ≡ line_of_ending (Err unread) }

@@ -9,7 +9,7 @@ pub enum ListingRefusal {
 }
 
 impl ListingRefusal {
-    // The number that a caller is told. By a name, and no `From`, so that a call says which number it is.
+    // The number that a caller is told. By a name, and no `From` or trait, so that a call says which number it is.
     pub fn number(self) -> u8
         ensures { result ≡ listing_number self }
     {

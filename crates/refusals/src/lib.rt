@@ -19,7 +19,7 @@ pub enum Refusal {
 }
 
 impl Refusal {
-    // The number that a caller is told. By a name, and no `From`, so that a call says which number it is.
+    // The number that a caller is told. By a name, and no `From` or trait, so that a call says which number it is.
     pub fn number(self) -> u8
         ensures { result ≡ number_of self }
     {

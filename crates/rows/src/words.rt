@@ -54,7 +54,7 @@ pub(crate) fn place(truth: bool, position: usize) -> Row
 }
 
 // One past the last position where `row` is true, or 0.
-// A loop, since `rposition` gives an index alone: the word is then read again from memory, and `always` took 6.6 ns against 5.2.
+// A loop: `rposition` misses the bar of speed (8.4 ns for `always`, against 7.1), and `enumerate().rfind(..)` has no proof.
 pub(crate) fn end(row: Row) -> usize
     ensures { Ends row result }
 {

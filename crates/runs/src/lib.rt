@@ -18,6 +18,7 @@ pub use source::RunSource;
 pub use table::TableRun;
 
 // Bytes pass the check of pulse runs exactly if they keep the rules.
+#[tactic(auto, using(crate::proofs::Ruled::ruled))]
 pub fn pulse_rules_are_checked()
     ensures { (bytes : List ℕ) → (pulse_check bytes ≡ Ok tt) ↔ ((n : ℕ) × PulseRules bytes n) }
 {}

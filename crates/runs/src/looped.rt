@@ -16,7 +16,7 @@ pub trait Positions {
     // The truth of an atom at a position.
     ghost truths: { Self → ℕ → ℕ → Bool };
 
-    // Asked of the positions up to the loop's end alone.
+    // `Looped::says` asks of the positions up to the loop's end alone.
     fn is_true(&self, atom: u8, position: usize) -> bool
         requires atom { atom < 32 }
         requires fits { (loop : ℕ) × (fits loop self.now ≡ true) }
@@ -32,7 +32,7 @@ pub struct Looped<P: Positions> {
     ghost fitting: { P.fits loop_length positions ≡ true },
 }
 
-// By hand, since no derive copies ghost fields beside a type parameter.
+// By hand: the check refuses a derive over these ghost fields (`derive-over-ghost-field`).
 impl<P: Positions + Copy> Clone for Looped<P> {
     ghost is_clone = { λ run copy. copy ≡ run };
 

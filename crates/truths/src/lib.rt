@@ -18,7 +18,7 @@ mod store;
 pub use searching::first_false;
 
 // Writes the rows of all formulas to the front of the words, by rising number, and answers whether there was room.
-// A yes or no with no value beside it: the error of a `Result` would say nothing more.
+// A yes or no with no value beside it: the public call keeps its answer and its clause.
 pub fn write_rows<R: RunSource>(formulas: &FormulaList, source: &R, words: &mut [u64]) -> bool
     ensures answer { result ≡ rows_fit (R.RunSource.meaning source.now) (formulas_of formulas.now) (length words.old) }
     ensures after { words.new ≡ rows_after (R.RunSource.meaning source.now) (formulas_of formulas.now) words.old }

@@ -33,7 +33,8 @@ impl<'a, R: RunSource> Along<'a, R> {
         ensures { result ≡ row_of (told (R.RunSource.meaning self.now.source.now) atom) }
     {
         let mut row = EMPTY;
-        // No fold: tried, and its closure needs clauses of its own. And the check wants a name for each longer row.
+        // No fold: a closure that calls a bound needs clauses of its own, longer than this loop.
+        // And a name for each longer row: the check proves no call that is laid into the row that it reads.
         for position in 0..self.lasso.positions() {
             let more = put(row, position, self.source.says(atom, position));
             row = more;
