@@ -1,5 +1,5 @@
 // A case at a stage: the formulas that are entered, and those of them that are assumed.
-ghost use Rattle.std.specs.Prelude.{◌≡◌, ℕ, ◌<◌, length, Some};
+ghost use Rattle.std.specs.Prelude.{◌≡◌, ℕ, ◌<◌, ◌≤◌, length, Some};
 ghost use Rattle.std.specs.List.{slice_get};
 ghost use Rattle.formulas.specs.Adding.{Distinct};
 ghost use Rattle.formulas.specs.Listed.{formulas_of};
@@ -20,6 +20,7 @@ pub struct Case<S> {
     // the numbers of formulas
     assumptions: Table<u16, ASSUMPTIONS>,
     stage: S,
+    ghost within: { length assumptions ≤ 16 },
     ghost distinct: { Distinct assumptions },
     ghost entered: { (k f : ℕ) → slice_get assumptions k ≡ Some f → f < length (formulas_of formulas) },
 }

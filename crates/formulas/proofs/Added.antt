@@ -3,7 +3,7 @@ use Rattle.std.proofs.Common.{◌≡◌, ℕ, ◌≤◌, Bool, true, false, ltb,
 use Rattle.std.specs.List.{slice_get}
 use Rattle.std.specs.Option.{ok_or}
 use Rattle.std.proofs.lemmas.List.{length_push}
-use Rattle.std.proofs.lemmas.Bool.{cond_both}
+use Rattle.std.proofs.lemmas.Bool.{cond_both, ltb-true}
 use Rattle.refusals.specs.declared.Refusal.{Refusal}
 use Rattle.logic.specs.Formula.{Formula}
 use Rattle.formulas.specs.declared.entry.Entry.{Entry}
@@ -18,6 +18,12 @@ pub add_longer : {X : Type 0} (most : ℕ) (xs : List X) (x : X) (o : Option ℕ
 add_longer most xs x (Some i) = omega arith
 add_longer most xs x None =
     cond_both (ltb (length xs) most) (xs ++ x ∷ []) xs (λ ys. length xs ≤ length ys) (λ _. omega (arith, length_push xs x)) (λ _. omega arith)
+
+-- a list that has room keeps to it
+pub add_within : {X : Type 0} (most : ℕ) (xs : List X) (x : X) (o : Option ℕ) → length xs ≤ most → length (add_after most xs x o) ≤ most
+add_within most xs x (Some i) few = few
+add_within most xs x None few =
+    cond_both (ltb (length xs) most) (xs ++ x ∷ []) xs (λ ys. length ys ≤ most) (λ room. omega (arith, length_push xs x, ltb-true (length xs) most room)) (λ _. few)
 
 pub form_longer : (fs : List Formula) (kind left right : ℕ) → length fs ≤ length (form_after fs kind left right)
 unfolding form_after

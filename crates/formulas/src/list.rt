@@ -1,4 +1,5 @@
 // The formula list: a table of entries that are distinct and stand behind their operands.
+ghost use Rattle.std.specs.Prelude.{◌≤◌, length};
 ghost use Rattle.formulas.specs.Adding.{Distinct};
 ghost use Rattle.formulas.specs.Entries.{Lower};
 
@@ -14,6 +15,7 @@ const FORMULAS: u16 = 1024;
 #[derive(Drop)]
 pub struct FormulaList {
     table: Table<Entry, FORMULAS>,
+    ghost within: { length table ≤ 1024 },
     ghost distinct: { Distinct table },
     ghost lower: { Lower table },
 }

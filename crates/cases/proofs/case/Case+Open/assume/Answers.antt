@@ -1,9 +1,9 @@
 -- `assume` meets its contract: an entered formula is added to the assumptions.
-use Rattle.std.proofs.Common.{◌≡◌, ℕ, ◌<◌, eqb, List, length, Some, sym, ap, ◌∙◌, subst, arith}
+use Rattle.std.proofs.Common.{◌≡◌, ℕ, ◌<◌, ◌≤◌, eqb, List, length, Some, sym, ap, ◌∙◌, subst, arith}
 use Rattle.std.specs.List.{slice_get}
 use Rattle.formulas.specs.Adding.{Distinct}
 use Rattle.formulas.specs.Listed.{formulas_of}
-use Rattle.formulas.proofs.Added.{number_or, add_distinct, add_every}
+use Rattle.formulas.proofs.Added.{number_or, add_within, add_distinct, add_every}
 use Rattle.formulas.proofs.Likeness.{eqb_tells}
 use Rattle.refusals.specs.declared.Refusal.TheVariants.{AssumptionsFull}
 use Rattle.std.specs.Option.{ok_or}
@@ -23,6 +23,7 @@ invariant_of-self c =
     let s = c.args.self.now in
     let after = c.enter.ensures.after in
     record {
+      within = subst (λ (xs : List ℕ). length xs ≤ 16) (sym after) (add_within 16 s.assumptions c.args.formula _ s.within);
       distinct = subst Distinct (sym after) (add_distinct eqb eqb_tells 16 s.assumptions c.args.formula s.distinct);
       entered = subst (λ (xs : List ℕ). (k g : ℕ) → slice_get xs k ≡ Some g → g < length (formulas_of s.formulas)) (sym after)
           (add_every (λ g. g < length (formulas_of s.formulas)) 16 s.assumptions c.args.formula _ s.entered (omega arith));

@@ -10,6 +10,7 @@ pub invariant_of-self : goal.invariant_of-self
 invariant_of-self g c =
     let s = c.args.self.now in
     record {
+      within = s.within;
       distinct = s.distinct;
       entered = λ k f is.
           let old : f < length (formulas_of s.formulas) = s.entered k f is in

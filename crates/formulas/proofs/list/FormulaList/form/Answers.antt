@@ -1,5 +1,5 @@
 -- `FormulaList::form` meets its contract: entering an entry is entering its formula.
-use Rattle.std.proofs.Common.{◌≡◌, ℕ, List, length, Err, Option, Result, sym, refl, ap, ◌∙◌, subst}
+use Rattle.std.proofs.Common.{◌≡◌, ℕ, ◌≤◌, List, length, Err, Option, Result, sym, refl, ap, ◌∙◌, subst}
 use Rattle.std.specs.Option.{ok_or}
 use Rattle.std.proofs.lemmas.Result.{err_from_is_err_and}
 use Rattle.refusals.specs.declared.Refusal.{Refusal}
@@ -9,6 +9,7 @@ use Rattle.formulas.specs.declared.list.FormulaList.{FormulaList}
 use Rattle.formulas.specs.Adding.{place, number_for}
 use Rattle.formulas.specs.Entries.{asked}
 use Rattle.formulas.specs.Listed.{entries_of}
+use Rattle.formulas.proofs.Added.{add_within}
 use Rattle.formulas.proofs.Decoded.{decoded_length}
 use Rattle.formulas.proofs.Likeness.{entry_eq}
 use Rattle.formulas.proofs.Forming.{Formed, formed, formed_refused}
@@ -38,7 +39,14 @@ entered c =
     (subst (λ (es : List Entry). Formed (entries_of s) es c.args.kind c.args.left c.args.right (ok_or (number_for 1024 (entries_of s) (place entry_eq (entries_of s) e)) FormulasFull)) (sym c.enter.ensures.after) f)
 
 pub invariant_of-self : goal.invariant_of-self
-invariant_of-self c = let f = entered c in record { distinct = f.apart; lower = f.lower }
+invariant_of-self c =
+    let s = c.args.self.now in
+    let f = entered c in
+    record {
+      within = subst (λ (es : List Entry). length es ≤ 1024) (sym c.enter.ensures.after) (add_within 1024 (entries_of s) c.in_ok-entry.entry _ s.within);
+      distinct = f.apart;
+      lower = f.lower;
+    }
 
 pub returns : goal.returns
 returns c = let f = entered (goal.at.returns c).After-enter in record { answer = c.ok_or.ensures.value ∙ f.answer; after = f.after; distinct = f.distinct }
