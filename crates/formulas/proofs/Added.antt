@@ -1,9 +1,9 @@
 -- What adding keeps.
-use Rattle.std.proofs.Common.{◌≡◌, ℕ, ◌≤◌, Bool, true, false, ltb, cond, List, [], ◌∷◌, ◌++◌, length, Some, None, Ok, Err, Option, Result, refl, arith}
+use Rattle.std.proofs.Common.{◌≡◌, ℕ, ◌<◌, ◌≤◌, Bool, true, false, ltb, cond, List, [], ◌∷◌, ◌++◌, length, Some, None, Ok, Err, Option, Result, refl, arith}
 use Rattle.std.specs.List.{slice_get}
 use Rattle.std.specs.Option.{ok_or}
 use Rattle.std.proofs.lemmas.List.{length_push}
-use Rattle.std.proofs.lemmas.Bool.{cond_both, ltb-true}
+use Rattle.std.proofs.lemmas.Bool.{cond_both, cond-true, ltb-true, lt-ltb}
 use Rattle.refusals.specs.declared.Refusal.{Refusal}
 use Rattle.logic.specs.Formula.{Formula}
 use Rattle.formulas.specs.declared.entry.Entry.{Entry}
@@ -32,6 +32,13 @@ form_longer fs kind left right = longer (asked (length fs) kind left right)
     longer : (r : Result Entry Refusal) → length fs ≤ length (after_for fs r)
     longer (Ok e) = add_longer 1024 fs _ _
     longer (Err x) = omega arith
+
+-- what is new has the next number in a list that has room, and stands at its end
+pub number_new : {X : Type 0} (most : ℕ) (xs : List X) → length xs < most → number_for most xs None ≡ Some (length xs)
+number_new most xs room = cond-true (ltb (length xs) most) _ _ (lt-ltb (length xs) most room)
+
+pub after_new : {X : Type 0} (most : ℕ) (xs : List X) (x : X) → length xs < most → add_after most xs x None ≡ xs ++ x ∷ []
+after_new most xs x room = cond-true (ltb (length xs) most) _ _ (lt-ltb (length xs) most room)
 
 -- a number or a refusal, where the refusal stands for none
 pub number_or : {X E : Type 0} (most : ℕ) (full : E) (xs : List X) (o : Option ℕ) → ok_or (number_for most xs o) full ≡ add_answer most full xs o

@@ -1,5 +1,5 @@
-// A list whose memory is set aside once, and to which nothing is added that is there already.
-ghost use Rattle.std.specs.Prelude.{◌≡◌, ◌<◌, [], IfOk, IfSome};
+// A list whose memory is set aside once.
+ghost use Rattle.std.specs.Prelude.{◌≡◌, ◌<◌, ◌≤◌, [], length, None, IfOk, IfSome, nat_le};
 ghost use Rattle.std.specs.List.{slice_get};
 ghost use Rattle.formulas.specs.Adding.{place, number_for, add_after};
 
@@ -34,9 +34,17 @@ impl<T, const MOST: u16> Table<T, MOST> {
     }
 
     pub fn as_slice(&self) -> &[T]
-        ensures { result.now ≡ self.now }
+        ensures items { result.now ≡ self.now }
+        ensures within { length result.now ≤ MOST }
     {
         self.items.as_slice()
+    }
+
+    // Whether there is no room for one item more.
+    pub fn is_full(&self) -> bool
+        ensures { result ≡ nat_le MOST (length self.now) }
+    {
+        self.items.len() >= usize::from(MOST)
     }
 }
 
@@ -46,6 +54,19 @@ impl<T: Copy, const MOST: u16> Table<T, MOST> {
         ensures { result ≡ slice_get self.now number }
     {
         self.items.get(usize::from(number)).copied()
+    }
+
+    // Adds an item, and answers its number. None where the table is full.
+    pub fn push(&mut self, item: T) -> Option<u16>
+        ensures number { result ≡ number_for MOST self.old None }
+        ensures after { self.new ≡ add_after MOST self.old item None }
+    {
+        if self.is_full() {
+            return None;
+        }
+        let number = self.items.len() as u16;
+        self.items.push_reserved(item);
+        Some(number)
     }
 }
 
@@ -63,14 +84,9 @@ impl<T: Copy + PartialEq, const MOST: u16> Table<T, MOST> {
         ensures number { result ≡ number_for MOST self.old (place T.eq self.old item) }
         ensures after { self.new ≡ add_after MOST self.old item (place T.eq self.old item) }
     {
-        if let Some(old) = self.find(item) {
-            return Some(old as u16);
+        match self.find(item) {
+            Some(old) => Some(old as u16),
+            None => self.push(item),
         }
-        let number = self.items.len() as u16;
-        if number >= MOST {
-            return None;
-        }
-        self.items.push_reserved(item);
-        Some(number)
     }
 }
