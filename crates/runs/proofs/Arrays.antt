@@ -1,14 +1,14 @@
 -- What the chains over the pulses of arrays answer.
-use Rattle.std.proofs.Common.{◌≡◌, ℕ, zero, suc, ◌+◌, ◌<◌, ◌≤◌, max, Bool, true, false, ◌&&◌, eqb, ltb, List, [], length, get_or, take, map, fold, refl, sym, ap, ap₂, ◌∙◌, ⊎_elim, add-one, arith}
+use Rattle.std.proofs.Common.{◌≡◌, ℕ, zero, suc, ◌+◌, ◌<◌, ◌≤◌, max, Bool, true, false, ltb, List, [], length, get_or, take, map, fold, refl, sym, ap, ap₂, ◌∙◌, add-one, arith}
 use Rattle.std.proofs.Math.Seq.{take-length}
 use Rattle.std.proofs.lemmas.List.Sums.{fold_more}
-use Rattle.std.specs.List.{list_any, list_all, IsAllAdjacentAnswer}
-use Rattle.std.proofs.lemmas.List.Recursion.{and_at, and_from_places, or_at, or_from_places}
-use Rattle.std.proofs.lemmas.Bool.{cases_Bool, both_ways, false_from_ne_true, and_parts, and_from, eqb-true, eq-eqb, ltb-true, ltb-false}
+use Rattle.std.specs.List.{list_all, IsAllAdjacentAnswer}
+use Rattle.std.proofs.lemmas.List.Recursion.{and_at, and_from_places}
+use Rattle.std.proofs.lemmas.Bool.{both_ways, false_from_ne_true, ltb-true, ltb-false}
 use Rattle.std.proofs.lemmas.List.{length-map, get_or-map}
 use Rattle.runs.specs.declared.pulse.Pulse.{Pulse}
-use Rattle.runs.specs.Pulses.{pulse_at, pulse_in, on, pulsed, latest, allowed, in_order}
-use Rattle.runs.proofs.Pulsing.{each_passes, each_allowed, rise, orders, pulsed_by, pulsing}
+use Rattle.runs.specs.Pulses.{pulse_at, pulse_in, latest, allowed, in_order}
+use Rattle.runs.proofs.Pulsing.{each_passes, rise, orders}
 
 -- the pulses of some arrays
 abbrev pub pulses_of : List (List ℕ) → List Pulse
@@ -16,39 +16,6 @@ pulses_of arrays = map (λ bytes. pulse_at bytes 0) arrays
 
 pub pulses_of-at : (arrays : List (List ℕ)) (k : ℕ) (d : Pulse) → k < length (pulses_of arrays) → get_or (pulses_of arrays) k d ≡ pulse_in arrays k
 pulses_of-at arrays k d l = get_or-map (λ bytes. pulse_at bytes 0) arrays k [] d (omega (arith, length-map arrays (λ bytes. pulse_at bytes 0)))
-
--- pulses in order have periods
-pub pulses_of-turns : (loop : ℕ) (arrays : List (List ℕ)) → in_order loop (pulse_in arrays) (length arrays) ≡ true → (k : ℕ) (e : Pulse) → k < length (pulses_of arrays) → e ≡ get_or (pulses_of arrays) k e → 0 < e.period
-pulses_of-turns loop arrays fits k e l is =
-    let many = length-map arrays (λ bytes. pulse_at bytes 0) in
-    let same : e ≡ pulse_in arrays k = is ∙ pulses_of-at arrays k e l in
-    rw same (each_allowed loop (pulse_in arrays) (length arrays) k (omega arith) fits).turns
-
--- whether a pulse makes an atom true at a position
-abbrev pub makes_true : ℕ → ℕ → Pulse → Bool
-makes_true a i e = eqb e.atom a && on e i
-
--- some pulse is of the atom and on, or none is
-pub any_pulses : (arrays : List (List ℕ)) (a i : ℕ) → list_any (makes_true a i) (pulses_of arrays) ≡ pulsed (pulse_in arrays) (length arrays) a i
-any_pulses arrays a i =
-    let test = makes_true a i in
-    let truth = pulsed (pulse_in arrays) (length arrays) a i in
-    let many = length-map arrays (λ bytes. pulse_at bytes 0) in
-    ⊎_elim (λ (p : truth ≡ true).
-    let by = pulsing (pulse_in arrays) (length arrays) a i p in
-    let e = pulse_in arrays by.0 in
-    let here : by.0 < length (pulses_of arrays) = omega arith in
-    or_at (list_any test) test refl (λ _ _. refl) (pulses_of arrays) by.0 e here (ap test (pulses_of-at arrays by.0 e here) ∙ and_from (eqb e.atom a) (on e i) (eq-eqb e.atom a by.2) by.3)
-    ∙ sym p)
-    (λ (p : truth ≡ false).
-    or_from_places (list_any test) test refl (λ _ _. refl) (pulses_of arrays) (pulse_at [] 0) (λ k l.
-    let e = pulse_in arrays k in
-    ap test (pulses_of-at arrays k (pulse_at [] 0) l)
-    ∙ false_from_ne_true (test e) (λ t.
-    let parts = and_parts (eqb e.atom a) (on e i) t in
-    both_ways truth p (pulsed_by (pulse_in arrays) (length arrays) a i k (omega arith) (eqb-true e.atom a parts.0) parts.1)))
-    ∙ sym p)
-    (cases_Bool truth)
 
 -- each is allowed, if none fails
 pub all_allowed : (loop : ℕ) (arrays : List (List ℕ)) → list_all (allowed loop) (pulses_of arrays) ≡ true → (k : ℕ) → k < length arrays → allowed loop (pulse_in arrays k) ≡ true

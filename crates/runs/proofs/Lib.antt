@@ -6,3 +6,4 @@ pub mod Given
 pub mod Ruled
 pub mod Chunks
 pub mod Arrays
+pub mod Finding

@@ -1,7 +1,7 @@
 -- Laws of pulses in order: what each of them has, and when an atom is true.
-use Rattle.std.proofs.Common.{◌≡◌, ℕ, zero, suc, ◌%◌, ◌<◌, ◌≤◌, true, ◌&&◌, eqb, leb, refl, ⊎_elim, le_trans, arith}
-use native.Mathlib.Nat.{le-max_left, le-max_right}
-use Rattle.std.proofs.lemmas.Bool.{cases_lt, and_parts, or_cases, and_from, leb-true, eqb-true, le-leb}
+use Rattle.std.proofs.Common.{◌≡◌, ℕ, zero, suc, ◌%◌, ◌<◌, ◌≤◌, true, false, ◌&&◌, eqb, leb, refl, sym, ap, ◌∙◌, ◌⊎◌, inl, inr, ⊎_elim, le_trans, arith}
+use native.Mathlib.Nat.{le-max_left, le-max_right, max-eq_left, max-eq_right}
+use Rattle.std.proofs.lemmas.Bool.{cases_Bool, both_ways, false_from_ne_true, cases_lt, and_parts, or_cases, and_from, leb-true, eqb-true, le-leb}
 use Rattle.std.proofs.lemmas.Bool.Decides.{nat_tests}
 use Rattle.runs.specs.declared.pulse.Pulse.{Pulse}
 use Rattle.runs.specs.Pulses.{on, pulsed, latest, allowed, in_order, least_behind}
@@ -45,6 +45,10 @@ rise loop pulses (suc (suc m)) j k l h p =
     (cases_lt j m)))
     (cases_lt k (suc m))
 
+-- and one of an atom at most
+only : (loop : ℕ) (pulses : ℕ → Pulse) (n j k : ℕ) → in_order loop pulses n ≡ true → j < n → k < n → (pulses j).atom ≡ (pulses k).atom → j ≡ k
+only loop pulses n j k p hj hk same = grind (arith, rise loop pulses n j k, rise loop pulses n k j)
+
 -- an atom above the one before it is high enough
 least_kept : (pulses : ℕ → Pulse) (n : ℕ) → ((k : ℕ) → suc k < suc n → (pulses k).atom < (pulses (suc k)).atom) → least_behind pulses n ≤ (pulses n).atom
 least_kept pulses zero rising = omega arith
@@ -67,6 +71,16 @@ latest_least pulses (suc n) k l =
     let right = le-max_right (latest pulses n) (pulses n).first in
     ⊎_elim (λ (h : k < n). le_trans (latest_least pulses n k h) left) (λ (h : n ≤ k). let e : k ≡ n = omega arith in rw e right) (cases_lt k n)
 
+-- and is one of them, or 0
+pub latest_one : (pulses : ℕ → Pulse) (n : ℕ) → ((k : ℕ) × (k < n) × ((pulses k).first ≡ latest pulses n)) ⊎ (latest pulses n ≡ 0)
+latest_one pulses zero = inr refl
+latest_one pulses (suc n) =
+    ⊎_elim (λ (h : latest pulses n < (pulses n).first). let last = max-eq_right {n = latest pulses n} (omega arith) in inl (n, omega arith, sym last))
+    (λ (h : (pulses n).first ≤ latest pulses n).
+    let before = max-eq_left h in
+    ⊎_elim (λ (one : (k : ℕ) × (k < n) × ((pulses k).first ≡ latest pulses n)). inl (one.0, omega arith, one.2 ∙ sym before)) (λ (none : latest pulses n ≡ 0). inr (before ∙ none)) (latest_one pulses n))
+    (cases_lt (latest pulses n) (pulses n).first)
+
 -- an atom is true where a pulse of it is on
 pub pulsed_by : (pulses : ℕ → Pulse) (n a i k : ℕ) → k < n → (pulses k).atom ≡ a → on (pulses k) i ≡ true → pulsed pulses n a i ≡ true
 pulsed_by pulses zero a i k l is o = absurd (omega arith)
@@ -84,3 +98,15 @@ pulsing pulses (suc n) a i p =
     let parts = and_parts (eqb (pulses n).atom a) (on (pulses n) i) h in
     (n, omega arith, eqb-true (pulses n).atom a parts.0, parts.1))
     (or_cases (pulsed pulses n a i) (eqb (pulses n).atom a && on (pulses n) i) p)
+
+-- pulses in order have one of an atom at most, so the atom is true where that one is on
+pub pulsed_alone : (loop : ℕ) (pulses : ℕ → Pulse) (n a i k : ℕ) → in_order loop pulses n ≡ true → k < n → (pulses k).atom ≡ a → pulsed pulses n a i ≡ on (pulses k) i
+pulsed_alone loop pulses n a i k p l is =
+    ⊎_elim (λ (o : on (pulses k) i ≡ true). pulsed_by pulses n a i k l is o ∙ sym o)
+    (λ (o : on (pulses k) i ≡ false).
+    false_from_ne_true (pulsed pulses n a i) (λ t.
+    let by = pulsing pulses n a i t in
+    let same : by.0 ≡ k = only loop pulses n by.0 k p by.1 l (by.2 ∙ sym is) in
+    both_ways (on (pulses k) i) o (ap (λ j. on (pulses j) i) (sym same) ∙ by.3))
+    ∙ sym o)
+    (cases_Bool (on (pulses k) i))

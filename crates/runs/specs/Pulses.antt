@@ -1,5 +1,5 @@
 -- Pulse runs: the loop, and pulses of atoms that come again and again from a first position on.
-use Rattle.std.specs.Prelude.{ℕ, zero, suc, ◌+◌, ◌-◌, ◌*◌, ◌/◌, ◌%◌, max, Bool, true, false, cond, ◌&&◌, ◌||◌, List, [], length, drop, slice_index_or, Ok, Err, Result, ◌==◌, nat_le, nat_lt}
+use Rattle.std.specs.Prelude.{◌≡◌, ◌≢◌, ℕ, zero, suc, ◌+◌, ◌-◌, ◌*◌, ◌/◌, ◌%◌, ◌<◌, max, Bool, true, false, cond, ◌&&◌, ◌||◌, List, [], length, drop, slice_index_or, Ok, Err, Result, Option, MatchOption, ◌==◌, nat_le, nat_lt}
 use Rattle.logic.specs.Run.{Run}
 use Rattle.runs.specs.declared.fault.RunFault.{RunFault}
 use Rattle.runs.specs.declared.fault.RunFault.TheVariants.{WrongLength, NoRun}
@@ -47,6 +47,10 @@ least_behind pulses (suc n) = (pulses n).atom + 1
 abbrev pub in_order : ℕ → (ℕ → Pulse) → ℕ → Bool
 in_order loop pulses zero = true
 in_order loop pulses (suc n) = in_order loop pulses n && (nat_le (least_behind pulses n) (pulses n).atom && allowed loop (pulses n))
+
+-- what is found is a pulse of the atom among the first n pulses; nothing is found only where none of them is of it
+abbrev pub FindsPulse : (ℕ → Pulse) → ℕ → ℕ → Option Pulse → Type 0
+FindsPulse pulses n a found = MatchOption found ((k : ℕ) → k < n → (pulses k).atom ≢ a) (λ e. (k : ℕ) × (k < n) × ((pulses k).atom ≡ a) × (pulses k ≡ e))
 
 -- the length is that of the loop and whole pulses; the loop is not 0, and the pulses are in order and allowed
 unfoldable pub pulse_check : List ℕ → Result (Unit {0}) RunFault

@@ -1,8 +1,8 @@
 // Runs that are given by pulses.
-ghost use Rattle.std.specs.Prelude.{◌≡◌, length};
+ghost use Rattle.std.specs.Prelude.{◌≡◌, ℕ, true, length};
 ghost use Rattle.runs.specs.AsGiven.{PulsesAllAlong};
 ghost use Rattle.runs.specs.Meanings.{GivesRun, pulse_meaning};
-ghost use Rattle.runs.specs.Pulses.{pulse_in, pulsed, in_order, latest, pulse_check, pulse_run};
+ghost use Rattle.runs.specs.Pulses.{pulse_in, pulsed, in_order, latest, FindsPulse, pulse_check, pulse_run};
 
 use crate::fault::RunFault;
 use crate::looped::{Looped, Positions};
@@ -64,12 +64,24 @@ impl Positions for Pulses<'_> {
     ghost truths = { λ pulses. pulsed (pulse_in pulses.0.now) (length pulses.0.now) };
 
     fn is_true(&self, atom: u8, position: usize) -> bool {
-        let mut pulses = self.0.iter().map(Pulse::from);
-        pulses.any(|pulse| pulse.atom == u16::from(atom) && pulse.is_on(position))
+        self.of_atom(atom)
+            .is_some_and(|pulse| pulse.is_on(position))
     }
 }
 
 impl Pulses<'_> {
+    // The pulse of an atom, if there is one: in order there is one at most.
+    fn of_atom(&self, atom: u8) -> Option<Pulse>
+        requires { (loop : ℕ) × (in_order loop (pulse_in self.now.0.now) (length self.now.0.now) ≡ true) }
+        ensures { FindsPulse (pulse_in self.now.0.now) (length self.now.0.now) atom result }
+    {
+        let place = self
+            .0
+            .binary_search_by_key(&u16::from(atom), |bytes| Pulse::from(bytes).atom)
+            .ok()?;
+        Some(Pulse::from(&self.0[place]))
+    }
+
     // Whether a run with a loop may have these pulses, their atoms strictly rising.
     fn are_in_order(&self, loop_length: u16) -> bool
         ensures { result ≡ in_order loop_length (pulse_in self.now.0.now) (length self.now.0.now) }
