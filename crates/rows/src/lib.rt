@@ -18,7 +18,7 @@ pub const WORDS: usize = 4;
 pub(crate) const BITS: usize = 64;
 
 // A row has so many positions.
-pub(crate) const POSITIONS: usize = WORDS * BITS;
+pub const POSITIONS: usize = WORDS * BITS;
 
 // The truth of one formula at each position.
 pub type Row = [u64; WORDS];

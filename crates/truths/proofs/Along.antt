@@ -1,5 +1,5 @@
 -- Where the rows of formulas stand in the words, and what they say there.
-use Rattle.std.proofs.Common.{◌≡◌, ℕ, zero, suc, ◌+◌, ◌*◌, ◌/◌, ◌%◌, ◌<◌, ◌≤◌, false, ◌&&◌, List, [], ◌∷◌, ◌++◌, length, get_or, take, drop, sym, refl, ap, ◌∙◌, ⊎_elim, arith}
+use Rattle.std.proofs.Common.{◌≡◌, ℕ, zero, suc, ◌+◌, ◌-◌, ◌*◌, ◌/◌, ◌%◌, ◌<◌, ◌≤◌, false, ◌&&◌, List, [], ◌∷◌, ◌++◌, length, get_or, take, drop, sym, refl, ap, ◌∙◌, ⊎_elim, arith}
 use Rattle.std.proofs.lemmas.List.{append_assoc, length-append, length-take, length-drop, take_at, drop_at, drop-drop, get_or-take, get_or-drop, get_or_past}
 use Rattle.std.proofs.lemmas.Bool.{lt-ltb, le-ltb, cases_lt}
 use Rattle.logic.specs.Formula.{Formula}
@@ -56,6 +56,18 @@ row_behind r fs words f i h l =
 pub rest_stays : (r : Run) (fs : List Formula) (words : List ℕ) → drop (4 * length fs) (with_rows r fs words) ≡ drop (4 * length fs) words
 unfolding with_rows
 rest_stays r fs words = drop_at (rows_along r fs) (drop (4 * length fs) words) (4 * length fs) (rows_along_length r fs)
+
+-- rows written over the rows of at most as many formulas leave nothing of these
+pub rows_over : (r q : Run) (fs gs : List Formula) (words : List ℕ) → length gs ≤ length fs → with_rows r fs (with_rows q gs words) ≡ with_rows r fs words
+unfolding with_rows
+rows_over r q fs gs words fewer =
+    let all : 4 * length gs + (4 * length fs - 4 * length gs) ≡ 4 * length fs = omega (arith, fewer) in
+    ap (λ (rest : List ℕ). rows_along r fs ++ rest)
+    (ap (λ (n : ℕ). drop n (with_rows q gs words)) (sym all)
+    ∙ sym (drop-drop (4 * length fs - 4 * length gs) (4 * length gs) (with_rows q gs words))
+    ∙ ap (drop (4 * length fs - 4 * length gs)) (rest_stays q gs words)
+    ∙ drop-drop (4 * length fs - 4 * length gs) (4 * length gs) words
+    ∙ ap (λ (n : ℕ). drop n words) all)
 
 -- writing the rows keeps the number of words
 pub with_rows_length : (r : Run) (fs : List Formula) (words : List ℕ) → 4 * length fs ≤ length words → length (with_rows r fs words) ≡ length words
