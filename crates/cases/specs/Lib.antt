@@ -1,9 +1,1 @@
-pub mod Case
-pub mod Calls
-pub mod Describes
-pub mod Outcomes
-pub mod Reads
 pub mod Model
-pub mod History
-pub mod Limits
-pub mod Promises

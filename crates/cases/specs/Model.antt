@@ -1,17 +1,17 @@
 -- The model that a case of the program stands for.
 use Rattle.std.specs.Prelude.{[]}
 use Rattle.formulas.specs.Listed.{formulas_of}
+use Rattle.model.specs.Case.{Case}
 use Rattle.cases.specs.declared.case.Case as declared
 use Rattle.cases.specs.declared.stage.Open.{Open}
 use Rattle.cases.specs.declared.stage.Sealed.{Sealed}
-use Rattle.cases.specs.Case.{Case}
 
--- formulas and assumptions alone, at either stage
-unfoldable pub modelled : {S : Type 0} → declared.Case S → Case
-modelled c = record { formulas = formulas_of c.formulas; assumptions = c.assumptions; lines = []; refutations = [] }
+-- its formulas and assumptions, and what it holds at its stage
+unfoldable pub modelled : {S : Type 0} {stage : _} → declared.Case S stage → Case
+modelled {stage = stage} c = record { formulas = formulas_of c.formulas; assumptions = c.assumptions; lines = []; refutations = stage.held c.stage }
 
-abbrev pub opened : declared.Case Open → Case
+abbrev pub opened : {stage : _} → declared.Case Open stage → Case
 opened c = modelled c
 
-abbrev pub sealed : declared.Case Sealed → Case
+abbrev pub sealed : {stage : _} → declared.Case Sealed stage → Case
 sealed c = modelled c

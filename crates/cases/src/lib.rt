@@ -1,10 +1,9 @@
-// Cases: formulas and assumptions, first open and then sealed.
+// Cases: formulas and assumptions, first open and then sealed; refutations are held at the second stage.
 #![tactic(auto)]
 
 mod case;
-mod counts;
 mod stage;
 
 pub use case::{Case, OpenCase, SealedCase};
-pub use counts::Counts;
-pub use stage::{Open, Sealed};
+pub use model::{Counts, Refutation, Standing};
+pub use stage::{Open, Sealed, Stage};

@@ -1,15 +1,16 @@
 -- `assume` meets its contract: an entered formula is added to the assumptions.
 use Rattle.std.proofs.Common.{◌≡◌, ℕ, ◌<◌, ◌≤◌, eqb, List, length, Some, sym, ap, ◌∙◌, subst, arith}
 use Rattle.std.specs.List.{slice_get}
+use Rattle.std.specs.Option.{ok_or}
+use Rattle.refusals.specs.declared.Refusal.TheVariants.{AssumptionsFull}
 use Rattle.formulas.specs.Adding.{Distinct}
 use Rattle.formulas.specs.Listed.{formulas_of}
 use Rattle.formulas.proofs.Added.{number_or, add_within, add_distinct, add_every}
+use Rattle.formulas.proofs.Members.{some_not_none}
 use Rattle.formulas.proofs.Likeness.{eqb_tells}
-use Rattle.refusals.specs.declared.Refusal.TheVariants.{AssumptionsFull}
-use Rattle.std.specs.Option.{ok_or}
-use Rattle.cases.specs.Calls.{with_assumptions}
+use Rattle.model.specs.Calls.{with_assumptions}
+use Rattle.model.proofs.Steps.{assume_unknown, assume_known}
 use Rattle.cases.specs.Model.{modelled}
-use Rattle.cases.proofs.Steps.{assume_unknown, assume_known}
 use Rattle.cases.proofs.case.Case+Open.assume.Goals as goal
 
 pub returns-then-from-len : goal.returns-then-from-len
@@ -27,6 +28,7 @@ invariant_of-self c =
       distinct = subst Distinct (sym after) (add_distinct eqb eqb_tells 16 s.assumptions c.args.formula s.distinct);
       entered = subst (λ (xs : List ℕ). (k g : ℕ) → slice_get xs k ≡ Some g → g < length (formulas_of s.formulas)) (sym after)
           (add_every (λ g. g < length (formulas_of s.formulas)) 16 s.assumptions c.args.formula _ s.entered (omega arith));
+      have_runs = λ n x is. absurd (some_not_none (sym is));
     }
 
 pub returns : goal.returns

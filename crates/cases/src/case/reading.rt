@@ -1,0 +1,80 @@
+// What is read of a case.
+use crate::case::Case;
+use crate::stage::{REFUTATIONS, Stage};
+use formulas::Entry;
+use model::{Counts, Refutation, Standing};
+use refusals::Refusal;
+
+impl<S: Stage> Case<S> {
+    ghost use Rattle.std.specs.Prelude.{◌≡◌, ◌<◌, ◌≤◌, IfSome};
+    ghost use Rattle.model.specs.Reads.{counts_of, entry_in, assumption_in, refutation_in, standing_in, first_refutation_of};
+    ghost use Rattle.cases.specs.Model.{modelled};
+
+    // How many formulas, assumptions, lines and refutations the case has.
+    #[tactic(auto, using(formulas::proofs::Decoded::decoded_length), unfolding(crate::specs::Model::modelled))]
+    pub fn counts(&self) -> Counts
+        ensures value { result ≡ counts_of (modelled self.now) }
+        ensures few { result.formulas ≤ 1024 }
+    {
+        Counts {
+            formulas: self.formulas.len(),
+            assumptions: self.assumptions.as_slice().len(),
+            lines: 0,
+            refutations: self.stage.refutations().len(),
+        }
+    }
+
+    // The entry of the formula with a number.
+    #[tactic(auto, using(model::proofs::Entries::entry_read), unfolding(crate::specs::Model::modelled))]
+    pub fn entry(&self, number: u16) -> Option<Entry>
+        ensures { result ≡ entry_in (modelled self.now) number }
+    {
+        self.formulas.get(number)
+    }
+
+    // The number of the formula that is assumed at a place.
+    #[tactic(auto, unfolding(crate::specs::Model::modelled))]
+    pub fn assumption(&self, number: u16) -> Option<u16>
+        ensures { result ≡ assumption_in (modelled self.now) number }
+    {
+        self.assumptions.get(number)
+    }
+
+    // The refutation with a number.
+    #[tactic(auto, unfolding(crate::specs::Model::modelled))]
+    pub fn refutation(&self, number: u16) -> Result<Refutation, Refusal>
+        ensures { result ≡ refutation_in (modelled self.now) number }
+    {
+        self.stage
+            .refutations()
+            .get(usize::from(number))
+            .copied()
+            .ok_or(Refusal::RefutationNotHeld)
+    }
+
+    // How a formula stands.
+    #[tactic(auto, unfolding(crate::specs::Model::modelled))]
+    pub fn standing(&self, formula: u16) -> Result<Standing, Refusal>
+        ensures { result ≡ standing_in (modelled self.now) formula }
+    {
+        if usize::from(formula) >= self.formulas.len() {
+            return Err(Refusal::NotEntered);
+        }
+        match self.first_refutation(formula) {
+            Some(number) => Ok(Standing::Refuted(number as u16)),
+            None => Ok(Standing::Open),
+        }
+    }
+
+    // The number of the first refutation of a formula.
+    #[tactic(auto, unfolding(crate::specs::Model::modelled))]
+    fn first_refutation(&self, formula: u16) -> Option<usize>
+        ensures number { result ≡ first_refutation_of (modelled self.now) formula }
+        ensures within { IfSome result (λ n. n < REFUTATIONS) }
+    {
+        self.stage
+            .refutations()
+            .iter()
+            .position(|refutation| refutation.formula == formula)
+    }
+}

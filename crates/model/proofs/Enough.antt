@@ -1,0 +1,58 @@
+-- With 4 words for each of 1,024 formulas, no scratch is too short.
+use Rattle.std.proofs.Common.{◌≡◌, ℕ, ◌+◌, ◌≤◌, Bool, length, Some, None, Ok, Err, Option, Result, ap, subst, ◌≢◌, arith}
+use lib.Dec
+use Rattle.std.proofs.lemmas.Bool.{cond_both}
+use Rattle.refusals.specs.declared.Refusal.{Refusal}
+use Rattle.refusals.specs.declared.Refusal.TheVariants.{ScratchTooShort, FormulaTrue, RefutationsFull}
+use Rattle.refusals.specs.Numbers.{number_of}
+use Rattle.refusals.proofs.Answers.{ok_not_err}
+use Rattle.logic.specs.Run.{Run}
+use Rattle.truths.specs.Searching.{first_failing}
+use Rattle.model.specs.Case.{Case}
+use Rattle.model.specs.Calls.{Outcome, says}
+use Rattle.model.specs.Judging.{check, once_checked, true_at, verdict, judge, held_by, truth, refute}
+use Rattle.model.specs.Outcomes.{Unjudgeable, scratch_too_short}
+use Rattle.model.specs.History.{after}
+use Rattle.model.specs.Promises.{ScratchSuffices}
+use Rattle.model.proofs.Histories.{limits_kept}
+use Rattle.model.proofs.Judged.{Checked, checked}
+
+err_same : {X : Type 0} {d e : Refusal} → ◌≡◌ {A = Result X Refusal} (Err d) (Err e) → d ≡ e
+err_same is = cc
+
+-- a refusal with another number
+other_number : {X : Type 0} {d : Refusal} → number_of d ≢ 12 → ◌≡◌ {A = Result X Refusal} (Err d) (Err ScratchTooShort) → ⊥
+other_number differs is = differs (ap number_of (err_same is))
+
+module _ (c : Case) (few : length c.formulas ≤ 1024) (r : Run) (f i n : ℕ) (enough : 4096 ≤ n) where
+  -- the outcome is not that refusal
+  abbrev Other : {A : Type 0} → Outcome A → Type 0
+  Other o = o.answer ≡ Err ScratchTooShort → ⊥
+
+  not_short : Unjudgeable c r f i n ScratchTooShort → ⊥
+  not_short (scratch_too_short f_in short within less) = omega arith
+
+  behind_check : {A : Type 0} (k : Result (Unit {0}) Refusal) → Checked c r f i n k → (o : Outcome A) → Other o → Other (once_checked c k o)
+  behind_check (Ok done) judgeable o other = other
+  behind_check (Err e) unjudgeable o other = λ is. not_short (subst (Unjudgeable c r f i n) (err_same is) unjudgeable)
+
+  truth_other : Other (truth c r f i n)
+  unfolding truth
+  truth_other = behind_check (check c r f i n) (checked c r f i n) (says c (Ok (true_at c r f i))) ok_not_err
+
+  by_verdict : (o : Option (ℕ × ℕ)) (b : Bool) → Other (held_by c f i (verdict o b))
+  by_verdict (Some x) b = other_number (λ is. omega arith)
+  by_verdict None b =
+      cond_both b (Err FormulaTrue) (Ok tt) (λ (v : Result (Unit {0}) Refusal). Other (held_by c f i v))
+      (λ _. other_number (λ is. omega arith)) (λ _ is. ok_not_err is)
+
+  refute_other : Other (refute c r f i n)
+  unfolding refute
+  refute_other = behind_check (check c r f i n) (checked c r f i n) _
+      (cond_both (Dec.ltb (length c.refutations) 64) (held_by c f i (judge c r f i)) (says c (Err RefutationsFull)) Other
+      (λ _. by_verdict (first_failing (true_at c r) (r.stem + r.loop) 0 c.assumptions) (true_at c r f i))
+      (λ _. other_number (λ is. omega arith)))
+
+pub scratch_suffices : ScratchSuffices 4096
+scratch_suffices s h r f i n enough =
+    (truth_other (after h) (limits_kept s h).formulas_few r f i n enough, refute_other (after h) (limits_kept s h).formulas_few r f i n enough)

@@ -1,0 +1,142 @@
+-- truth and refute do what their relations say.
+use Rattle.std.proofs.Common.{◌≡◌, ℕ, ◌+◌, ◌*◌, ◌<◌, Bool, true, false, cond, ltb, leb, List, length, Some, None, Ok, Err, Option, Result, sym, refl, ◌∙◌, subst, inl, inr, arith}
+use mathlib.Core.Bool.{false≢true}
+use lib.Dec
+use Rattle.std.specs.List.{slice_get}
+use Rattle.std.proofs.lemmas.Option.{slice_get-get_or}
+use Rattle.std.proofs.lemmas.Bool.{cases_lt, cond_both, ltb-true, ltb-false, leb-true, leb-false}
+use Rattle.refusals.specs.declared.Refusal.{Refusal}
+use Rattle.refusals.specs.declared.Refusal.TheVariants.{NotEntered, RunTooLong, PastRun, ScratchTooShort, FormulaTrue, RefutationsFull}
+use Rattle.logic.specs.Formula.{Formula, falsum}
+use Rattle.logic.specs.Run.{Run}
+use Rattle.logic.specs.Truth.{Holds, Throughout}
+use Rattle.logic.proofs.Decided.{decides, throughout, fails}
+use Rattle.formulas.specs.Forming.{numbered}
+use Rattle.formulas.proofs.Members.{nth_within}
+use Rattle.truths.specs.Along.{with_rows}
+use Rattle.truths.proofs.Along.{row_along, row_behind}
+use Rattle.truths.specs.Searching.{first_failing}
+use Rattle.truths.proofs.Failing.{failing, none_failing}
+use Rattle.model.specs.Case.{Case}
+use Rattle.model.specs.Calls.{says}
+use Rattle.model.specs.Judging.{check, once_checked, words_once_checked, true_at, truth, truth_scratch, verdict, judge, held_by, with_room, words_with_room, refute, refute_scratch}
+use Rattle.model.specs.Describes.{Number}
+use Rattle.model.specs.Limits.{AssumptionsEntered}
+use Rattle.model.specs.Breaking.{Assumes, Keeps, Breaks}
+use Rattle.model.specs.Outcomes.{Judgeable, Unjudgeable, formula_unknown, run_too_long, past_run, scratch_too_short, Telling, not_told, told_true, told_false, FirstFailure, Refuting, not_judged, refutations_full, assumption_fails, formula_holds, newly_held}
+use Rattle.model.specs.Promises.{TruthExact, RefuteExact, RowsTell}
+use Rattle.model.proofs.Describing.{numbered_is}
+
+-- an entered formula has its number
+entered_number : (fs : List Formula) (f : ℕ) → f < length fs → Number fs f (numbered fs f)
+entered_number fs f f_in = slice_get-get_or fs f falsum f_in
+
+module _ (c : Case) (r : Run) (f i : ℕ) where
+  -- what the shared checks answer
+  abbrev pub Checked : ℕ → Result (Unit {0}) Refusal → Type 0
+  Checked words (Ok done) = Judgeable c r f i words
+  Checked words (Err e) = Unjudgeable c r f i words e
+
+  pub checked : (words : ℕ) → Checked words (check c r f i words)
+  checked words =
+      cond_both (Dec.ltb f (length c.formulas)) _ (Err NotEntered) (Checked words)
+      (λ known. let entered = ltb-true f (length c.formulas) known in
+      cond_both (Dec.leb (r.stem + r.loop) 256) _ (Err RunTooLong) (Checked words)
+      (λ fits. let short = leb-true (r.stem + r.loop) 256 fits in
+      cond_both (Dec.ltb i (r.stem + r.loop)) _ (Err PastRun) (Checked words)
+      (λ inside. let within = ltb-true i (r.stem + r.loop) inside in
+      cond_both (Dec.leb (4 * length c.formulas) words) (Ok tt) (Err ScratchTooShort) (Checked words)
+      (λ enough. record { entered = entered; short = short; within = within; room = leb-true (4 * length c.formulas) words enough })
+      (λ few. scratch_too_short entered short within (leb-false (4 * length c.formulas) words few)))
+      (λ past. past_run entered short (ltb-false i (r.stem + r.loop) past)))
+      (λ long. run_too_long entered (leb-false (r.stem + r.loop) 256 long)))
+      (λ past. formula_unknown (ltb-false f (length c.formulas) past))
+
+  module _ (words : List ℕ) where
+    telling : Judgeable c r f i (length words) → (b : Bool) → true_at c r f i ≡ b
+        → Telling c r f i words (says c (Ok b)) (with_rows r c.formulas words)
+    telling judgeable true is = told_true judgeable (numbered c.formulas f) (entered_number c.formulas f judgeable.entered) ((decides r (numbered c.formulas f) i).0 is)
+    telling judgeable false is = told_false judgeable (numbered c.formulas f) (entered_number c.formulas f judgeable.entered) (fails r (numbered c.formulas f) i is)
+
+    truth_by : (k : Result (Unit {0}) Refusal) → Checked (length words) k
+        → Telling c r f i words (once_checked c k (says c (Ok (true_at c r f i)))) (words_once_checked words k (with_rows r c.formulas words))
+    truth_by (Ok done) judgeable = telling judgeable (true_at c r f i) refl
+    truth_by (Err e) unjudgeable = not_told e unjudgeable
+
+pub truth_exact : TruthExact
+unfolding truth truth_scratch
+truth_exact c r f i words = truth_by c r f i words (check c r f i (length words)) (checked c r f i (length words))
+
+module _ (c : Case) (entered : AssumptionsEntered c) (r : Run) where
+  -- what the assumption at a place says, by its number and by its formula
+  assumes : (k a : ℕ) → slice_get c.assumptions k ≡ Some a → Assumes c.formulas c.assumptions k (numbered c.formulas a)
+  assumes k a is = record { number = a; assumed = is; numbered = entered_number c.formulas a (entered k a is) }
+
+  holding : (k : ℕ) (A : Formula) (s : Assumes c.formulas c.assumptions k A) → ((j : ℕ) → j < r.stem + r.loop → true_at c r s.number j ≡ true) → Throughout r A
+  holding k A s below = subst (Throughout r) (numbered_is c.formulas s.number A s.numbered) (throughout r (numbered c.formulas s.number) below)
+
+  pub first_failure : (k j : ℕ) → first_failing (true_at c r) (r.stem + r.loop) 0 c.assumptions ≡ Some (k, j) → FirstFailure c r k j
+  first_failure k j is =
+      let p = failing (true_at c r) (r.stem + r.loop) c.assumptions k j is in
+      let A = numbered c.formulas p.number in
+      record {
+        formula = A;
+        assumed = assumes k p.number p.placed;
+        position = omega (arith, p.first.below);
+        fails = fails r A j p.first.false_at;
+        before = λ m lt. (decides r A m).0 (p.first.true_before m (omega arith) lt);
+        earlier = λ m B lt s. holding m B s (p.earlier m s.number lt s.assumed);
+      }
+
+  keeps : first_failing (true_at c r) (r.stem + r.loop) 0 c.assumptions ≡ None → Keeps c.formulas c.assumptions r
+  keeps none k A s = holding k A s (none_failing (true_at c r) (r.stem + r.loop) 0 c.assumptions none k s.number s.assumed)
+
+  pub breaking : (f i : ℕ) → f < length c.formulas → first_failing (true_at c r) (r.stem + r.loop) 0 c.assumptions ≡ None → true_at c r f i ≡ false
+      → Breaks c.formulas c.assumptions r f i
+  breaking f i f_in none is = record {
+    keeps = keeps none;
+    formula = numbered c.formulas f;
+    numbered = entered_number c.formulas f f_in;
+    fails = fails r (numbered c.formulas f) i is;
+  }
+
+  module _ (f i : ℕ) (words : List ℕ) (judgeable : Judgeable c r f i (length words)) where
+    abbrev Refuted : Result (Unit {0}) Refusal → Type 0
+    Refuted v = Refuting c r f i words (held_by c f i v) (with_rows r c.formulas words)
+
+    by_verdict : length c.refutations < 64 → (o : Option (ℕ × ℕ)) → first_failing (true_at c r) (r.stem + r.loop) 0 c.assumptions ≡ o
+        → Refuted (verdict o (true_at c r f i))
+    by_verdict room (Some x) is = assumption_fails judgeable room x.0 x.1 (first_failure x.0 x.1 is)
+    by_verdict room None is =
+        cond_both (true_at c r f i) (Err FormulaTrue) (Ok tt) Refuted
+        (λ true_there. formula_holds judgeable room (keeps is) (numbered c.formulas f) (entered_number c.formulas f judgeable.entered) ((decides r (numbered c.formulas f) i).0 true_there))
+        (λ false_there. newly_held judgeable room (breaking f i judgeable.entered is false_there))
+
+    by_room : (b : Bool) → Dec.ltb (length c.refutations) 64 ≡ b
+        → Refuting c r f i words (cond b (held_by c f i (judge c r f i)) (says c (Err RefutationsFull))) (cond b (with_rows r c.formulas words) words)
+    by_room true room = by_verdict (ltb-true (length c.refutations) 64 room) (first_failing (true_at c r) (r.stem + r.loop) 0 c.assumptions) refl
+    by_room false full = refutations_full judgeable (ltb-false (length c.refutations) 64 full)
+
+  refute_by : (f i : ℕ) (words : List ℕ) (k : Result (Unit {0}) Refusal) → Checked c r f i (length words) k
+      → Refuting c r f i words
+      (once_checked c k (with_room c r f i))
+      (words_once_checked words k (words_with_room c r words))
+  refute_by f i words (Ok done) judgeable = by_room f i words judgeable (Dec.ltb (length c.refutations) 64) refl
+  refute_by f i words (Err e) unjudgeable = not_judged e unjudgeable
+
+pub refute_exact : RefuteExact
+unfolding refute refute_scratch
+refute_exact c entered r f i words = refute_by c entered r f i words (check c r f i (length words)) (checked c r f i (length words))
+
+pub rows_tell : RowsTell
+rows_tell r fs words f i A short is =
+    let f_in = nth_within fs f is in
+    let A_is = numbered_is fs f A is in
+    elim (cases_lt i (r.stem + r.loop)) [
+      | inl within ↦
+          let says = row_along r fs words f i f_in within short in (
+            λ t. (within, subst (λ (B : Formula). Holds r B i) A_is ((decides r (numbered fs f) i).0 (sym says ∙ t))),
+            λ p. says ∙ (decides r (numbered fs f) i).1 (subst (λ (B : Formula). Holds r B i) (sym A_is) p.1),
+          )
+      | inr past ↦ (λ t. absurd (false≢true (sym (row_behind r fs words f i f_in past) ∙ t)), λ p. absurd (omega (arith, p.0)))
+    ]

@@ -1,0 +1,11 @@
+pub mod Case
+pub mod Calls
+pub mod Judging
+pub mod Describes
+pub mod Breaking
+pub mod Outcomes
+pub mod Reads
+pub mod History
+pub mod LastRows
+pub mod Limits
+pub mod Promises

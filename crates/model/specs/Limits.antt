@@ -1,0 +1,27 @@
+-- What a case keeps to after every history.
+use Rattle.std.specs.Prelude.{◌≡◌, ℕ, ◌<◌, ◌≤◌, List, [], length, Some}
+use Rattle.std.specs.List.{slice_get}
+use Rattle.logic.specs.Formula.{Formula}
+use Rattle.formulas.specs.Adding.{Distinct}
+use Rattle.model.specs.declared.refutation.Refutation.{Refutation}
+use Rattle.model.specs.Case.{Case}
+use Rattle.model.specs.Describes.{Number, Describes}
+
+-- each formula of a list is described by a kind and two fields, so its operands are in the list and its atoms are at most 31
+abbrev pub Closed : List Formula → Type 0
+Closed fs = (n : ℕ) (A : Formula) → Number fs n A → (kind : ℕ) × (left : ℕ) × (right : ℕ) × Describes fs kind left right A
+
+-- each assumption is the number of an entered formula
+abbrev pub AssumptionsEntered : Case → Type 0
+AssumptionsEntered c = (k f : ℕ) → slice_get c.assumptions k ≡ Some f → f < length c.formulas
+
+pub record Limits (c : Case) : Type 0 where
+  pub formulas_distinct : Distinct c.formulas
+  pub formulas_few : length c.formulas ≤ 1024
+  pub formulas_closed : Closed c.formulas
+  pub assumptions_distinct : Distinct c.assumptions
+  pub assumptions_few : length c.assumptions ≤ 16
+  pub assumptions_entered : AssumptionsEntered c
+  pub no_lines : c.lines ≡ []
+  pub refutations_few : length c.refutations ≤ 64
+  pub refutations_entered : (n : ℕ) (x : Refutation) → slice_get c.refutations n ≡ Some x → x.formula < length c.formulas

@@ -1,0 +1,81 @@
+-- What the calls do, as relations: one case of each for every way that a call can end.
+use Rattle.std.specs.Prelude.{◌≡◌, ℕ, ◌+◌, ◌*◌, ◌<◌, ◌≤◌, Bool, true, false, List, [], ◌∷◌, ◌++◌, length, Some, Ok, Err, ◌≢◌}
+use Rattle.std.specs.List.{slice_get}
+use Rattle.refusals.specs.declared.Refusal.{Refusal}
+use Rattle.refusals.specs.declared.Refusal.TheVariants.{UnknownKind, BadField, FormulasFull, NotEntered, AssumptionsFull, RunTooLong, PastRun, ScratchTooShort, AssumptionFalse, FormulaTrue, RefutationsFull}
+use Rattle.logic.specs.Formula.{Formula}
+use Rattle.logic.specs.Run.{Run}
+use Rattle.logic.specs.Truth.{Holds, Throughout}
+use Rattle.truths.specs.Along.{with_rows}
+use Rattle.model.specs.Case.{Case}
+use Rattle.model.specs.Calls.{Outcome, says, with_formulas, with_assumptions}
+use Rattle.model.specs.Judging.{with_refutations}
+use Rattle.model.specs.Describes.{Number, Describes}
+use Rattle.model.specs.Breaking.{Assumes, Keeps, Breaks}
+
+-- x is nowhere in a list
+abbrev pub Absent : {X : Type 0} → List X → X → Type 0
+Absent xs x = (k : ℕ) → slice_get xs k ≢ Some x
+
+-- form: the kind is above 4; the fields describe no formula; or they describe one, which is there, is new and finds the list full, or is new and entered
+pub data Forming (c : Case) (kind left right : ℕ) : Outcome ℕ → Type 0 where
+  unknown_kind : 4 < kind → Forming c kind left right (says c (Err UnknownKind))
+  bad_field : kind ≤ 4 → ((A : Formula) → Describes c.formulas kind left right A → ⊥) → Forming c kind left right (says c (Err BadField))
+  formula_there : (A : Formula) → Describes c.formulas kind left right A → (n : ℕ) → slice_get c.formulas n ≡ Some A → Forming c kind left right (says c (Ok n))
+  formulas_full : (A : Formula) → Describes c.formulas kind left right A → Absent c.formulas A → 1024 ≤ length c.formulas → Forming c kind left right (says c (Err FormulasFull))
+  formula_entered : (A : Formula) → Describes c.formulas kind left right A → Absent c.formulas A → length c.formulas < 1024
+      → Forming c kind left right (record { answer = Ok (length c.formulas); after = with_formulas c (c.formulas ++ A ∷ []) })
+
+-- assume: the formula is not entered; or it is, and is assumed already, is new and finds the list full, or is new and assumed
+pub data Assuming (c : Case) (f : ℕ) : Outcome ℕ → Type 0 where
+  not_entered : length c.formulas ≤ f → Assuming c f (says c (Err NotEntered))
+  assumption_there : f < length c.formulas → (k : ℕ) → slice_get c.assumptions k ≡ Some f → Assuming c f (says c (Ok k))
+  assumptions_full : f < length c.formulas → Absent c.assumptions f → 16 ≤ length c.assumptions → Assuming c f (says c (Err AssumptionsFull))
+  newly_assumed : f < length c.formulas → Absent c.assumptions f → length c.assumptions < 16
+      → Assuming c f (record { answer = Ok (length c.assumptions); after = with_assumptions c (c.assumptions ++ f ∷ []) })
+
+-- a formula can be judged: it is entered, its run has at most 256 positions and this one among them, and there are words for all rows
+pub record Judgeable (c : Case) (r : Run) (f i : ℕ) (words : ℕ) : Type 0 where
+  pub entered : f < length c.formulas
+  pub short : r.stem + r.loop ≤ 256
+  pub within : i < r.stem + r.loop
+  pub room : 4 * length c.formulas ≤ words
+
+-- or it cannot, for the first of these reasons
+pub data Unjudgeable (c : Case) (r : Run) (f i : ℕ) (words : ℕ) : Refusal → Type 0 where
+  formula_unknown : length c.formulas ≤ f → Unjudgeable c r f i words NotEntered
+  run_too_long : f < length c.formulas → 256 < r.stem + r.loop → Unjudgeable c r f i words RunTooLong
+  past_run : f < length c.formulas → r.stem + r.loop ≤ 256 → r.stem + r.loop ≤ i → Unjudgeable c r f i words PastRun
+  scratch_too_short : f < length c.formulas → r.stem + r.loop ≤ 256 → i < r.stem + r.loop → words < 4 * length c.formulas
+      → Unjudgeable c r f i words ScratchTooShort
+
+-- truth: the formula cannot be judged; or it can, and it holds at the position, or it does not. Here and below, `words` is the scratch before the call, and the list behind the outcome is the scratch afterwards
+pub data Telling (c : Case) (r : Run) (f i : ℕ) (words : List ℕ) : Outcome Bool → List ℕ → Type 0 where
+  not_told : (e : Refusal) → Unjudgeable c r f i (length words) e → Telling c r f i words (says c (Err e)) words
+  told_true : Judgeable c r f i (length words) → (A : Formula) → Number c.formulas f A → Holds r A i
+      → Telling c r f i words (says c (Ok true)) (with_rows r c.formulas words)
+  told_false : Judgeable c r f i (length words) → (A : Formula) → Number c.formulas f A → (Holds r A i → ⊥)
+      → Telling c r f i words (says c (Ok false)) (with_rows r c.formulas words)
+
+-- the assumption at place k is the first that does not hold throughout the run, and j is the first position at which it does not hold
+pub record FirstFailure (c : Case) (r : Run) (k j : ℕ) : Type 0 where
+  pub formula : Formula
+  pub assumed : Assumes c.formulas c.assumptions k formula
+  pub position : j < r.stem + r.loop
+  pub fails : Holds r formula j → ⊥
+  pub before : (i : ℕ) → i < j → Holds r formula i
+  pub earlier : (m : ℕ) (A : Formula) → m < k → Assumes c.formulas c.assumptions m A → Throughout r A
+
+-- refute: the formula cannot be judged; or it can, and 64 refutations are held; or there is room, and an assumption fails, or all hold and so does the formula, or the run breaks it
+pub data Refuting (c : Case) (r : Run) (f i : ℕ) (words : List ℕ) : Outcome ℕ → List ℕ → Type 0 where
+  not_judged : (e : Refusal) → Unjudgeable c r f i (length words) e → Refuting c r f i words (says c (Err e)) words
+  refutations_full : Judgeable c r f i (length words) → 64 ≤ length c.refutations → Refuting c r f i words (says c (Err RefutationsFull)) words
+  assumption_fails : Judgeable c r f i (length words) → length c.refutations < 64 → (k j : ℕ) → FirstFailure c r k j
+      → Refuting c r f i words (says c (Err (AssumptionFalse k j))) (with_rows r c.formulas words)
+  formula_holds : Judgeable c r f i (length words) → length c.refutations < 64 → Keeps c.formulas c.assumptions r
+      → (A : Formula) → Number c.formulas f A → Holds r A i
+      → Refuting c r f i words (says c (Err FormulaTrue)) (with_rows r c.formulas words)
+  newly_held : Judgeable c r f i (length words) → length c.refutations < 64 → Breaks c.formulas c.assumptions r f i
+      → Refuting c r f i words
+      (record { answer = Ok (length c.refutations); after = with_refutations c (c.refutations ++ record { formula = f; position = i } ∷ []) })
+      (with_rows r c.formulas words)

@@ -1,0 +1,125 @@
+-- What holds of every case, and after every history of calls.
+use Rattle.std.specs.Prelude.{◌≡◌, ℕ, ◌+◌, ◌*◌, ◌<◌, ◌≤◌, true, ◌↔◌, List, length, drop, Some, Ok, Err, Result, ◌≢◌}
+use Rattle.refusals.specs.declared.Refusal.{Refusal}
+use Rattle.refusals.specs.declared.Refusal.TheVariants.{NotEntered, ScratchTooShort, RefutationNotHeld}
+use Rattle.logic.specs.Formula.{Formula}
+use Rattle.logic.specs.Run.{Run}
+use Rattle.logic.specs.Truth.{Holds}
+use Rattle.formulas.specs.declared.entry.Entry.{Entry}
+use Rattle.formulas.specs.Entries.{kind_of, left_of, right_of}
+use Rattle.truths.specs.Along.{with_rows, row_says}
+use Rattle.model.specs.declared.standing.Standing.{Standing}
+use Rattle.model.specs.declared.standing.Standing.TheVariants.{Refuted, Open}
+use Rattle.model.specs.Case.{Case}
+use Rattle.model.specs.Calls as calls
+use Rattle.model.specs.Judging as judging
+use Rattle.model.specs.Describes.{Number, Describes}
+use Rattle.model.specs.Breaking.{Breaks}
+use Rattle.model.specs.Outcomes.{Forming, Assuming, Judgeable, Telling, Refuting}
+use Rattle.model.specs.Reads.{counts_of, entry_in, assumption_in, refutation_in, standing_in}
+use Rattle.model.specs.History.{Stage, Call, History, after_call, Refused, after, Formed, Assumed, Held}
+use Rattle.model.specs.Limits.{AssumptionsEntered, Limits}
+
+-- form and assume do what the relations say, on every case
+abbrev pub FormExact : Type 0
+FormExact = (c : Case) (kind left right : ℕ) → Forming c kind left right (calls.form c kind left right)
+
+abbrev pub AssumeExact : Type 0
+AssumeExact = (c : Case) (f : ℕ) → Assuming c f (calls.assume c f)
+
+-- truth does what the relation says on every case, and refute on every case whose assumptions are entered, as after all histories
+abbrev pub TruthExact : Type 0
+TruthExact = (c : Case) (r : Run) (f i : ℕ) (words : List ℕ)
+    → Telling c r f i words (judging.truth c r f i (length words)) (judging.truth_scratch c r f i words)
+
+abbrev pub RefuteExact : Type 0
+RefuteExact = (c : Case) → AssumptionsEntered c → (r : Run) (f i : ℕ) (words : List ℕ)
+    → Refuting c r f i words (judging.refute c r f i (length words)) (judging.refute_scratch c r f i words)
+
+-- a refutation is held exactly when it can be judged, there is room, and the run keeps the assumptions and breaks the formula; its number is the next one
+abbrev pub HeldExactly : Type 0
+HeldExactly = (c : Case) → AssumptionsEntered c → (r : Run) (f i n m : ℕ)
+    → ((judging.refute c r f i n).answer ≡ Ok m)
+    ↔ ((m ≡ length c.refutations) × (length c.refutations < 64) × Judgeable c r f i n × Breaks c.formulas c.assumptions r f i)
+
+-- once rows are written, the row of each formula is true just at the positions up to the loop's end where the formula holds
+abbrev pub RowsTell : Type 0
+RowsTell = (r : Run) (fs : List Formula) (words : List ℕ) (f i : ℕ) (A : Formula) → r.stem + r.loop ≤ 256 → Number fs f A
+    → (row_says (with_rows r fs words) f i ≡ true) ↔ ((i < r.stem + r.loop) × Holds r A i)
+
+-- and the words behind the rows are as they were
+abbrev pub RestStays : Type 0
+RestStays = (r : Run) (fs : List Formula) (words : List ℕ) → drop (4 * length fs) (with_rows r fs words) ≡ drop (4 * length fs) words
+
+-- a refused call changes nothing of the case
+abbrev pub RefusalsChangeNothing : Type 0
+RefusalsChangeNothing = (s : Stage) (c : Case) (x : Call s) (e : Refusal) → Refused c x e → after_call c x ≡ c
+
+-- after every history, the formulas are those that form answered a number for, by these numbers
+abbrev pub FormulasFormed : Type 0
+FormulasFormed = (s : Stage) (h : History s) (n : ℕ) (A : Formula) → Number (after h).formulas n A ↔ Formed s h n A
+
+-- after every history, the assumptions are the formulas that assume answered a place for, at these places
+abbrev pub AssumptionsAssumed : Type 0
+AssumptionsAssumed = (s : Stage) (h : History s) (k f : ℕ) → (assumption_in (after h) k ≡ Some f) ↔ Assumed s h k f
+
+-- after every history, the refutations are those that refute answered a number for, by these numbers, and reading any other is refused
+abbrev pub RefutationsHeld : Type 0
+RefutationsHeld = (s : Stage) (h : History s) (n : ℕ)
+    → ((f i : ℕ) → (refutation_in (after h) n ≡ Ok (record { formula = f; position = i })) ↔ ((r : Run) × Held s h n f i r))
+    × ((refutation_in (after h) n ≡ Err RefutationNotHeld) ↔ ((f i : ℕ) (r : Run) → Held s h n f i r → ⊥))
+
+-- and the run that a refutation was held with keeps the assumptions and breaks the formula at the position
+abbrev pub RefutationsHaveRuns : Type 0
+RefutationsHaveRuns = (s : Stage) (h : History s) (n f i : ℕ) (r : Run) → Held s h n f i r → Breaks (after h).formulas (after h).assumptions r f i
+
+-- the counts are above just those numbers and places, and there are no lines yet
+abbrev pub CountsTell : Type 0
+CountsTell = (s : Stage) (h : History s) (n : ℕ)
+    → ((n < (counts_of (after h)).formulas) ↔ ((A : Formula) × Formed s h n A))
+    × ((n < (counts_of (after h)).assumptions) ↔ ((f : ℕ) × Assumed s h n f))
+    × ((n < (counts_of (after h)).refutations) ↔ ((f : ℕ) × (i : ℕ) × (r : Run) × Held s h n f i r))
+    × ((counts_of (after h)).lines ≡ 0)
+
+-- after every history, so many scratch words are enough for truth and refute
+abbrev pub ScratchSuffices : ℕ → Type 0
+ScratchSuffices most = (s : Stage) (h : History s) (r : Run) (f i n : ℕ) → most ≤ n
+    → ((judging.truth (after h) r f i n).answer ≢ Err ScratchTooShort) × ((judging.refute (after h) r f i n).answer ≢ Err ScratchTooShort)
+
+-- how a formula stands after a history: it is not entered; it is refuted, by its first refutation; or it has none and is open
+pub data Stands (s : Stage) (h : History s) (f : ℕ) : Result Standing Refusal → Type 0 where
+  not_entered : ((A : Formula) → Formed s h f A → ⊥) → Stands s h f (Err NotEntered)
+  refuted_first : (A : Formula) → Formed s h f A → (n i : ℕ) (r : Run) → Held s h n f i r → ((m j : ℕ) (q : Run) → m < n → Held s h m f j q → ⊥)
+      → Stands s h f (Ok (Refuted n))
+  still_open : (A : Formula) → Formed s h f A → ((m j : ℕ) (q : Run) → Held s h m f j q → ⊥) → Stands s h f (Ok Open)
+
+abbrev pub StandingTells : Type 0
+StandingTells = (s : Stage) (h : History s) (f : ℕ) → Stands s h f (standing_in (after h) f)
+
+-- the entry that is read for a number describes the formula that form answered the number for
+abbrev pub EntriesTell : Type 0
+EntriesTell = (s : Stage) (h : History s) (n : ℕ) (e : Entry)
+    → (entry_in (after h) n ≡ Some e) ↔ ((A : Formula) × Formed s h n A × Describes (after h).formulas (kind_of e) (left_of e) (right_of e) A)
+
+-- every history keeps to the limits of a case
+abbrev pub LimitsKept : Type 0
+LimitsKept = (s : Stage) (h : History s) → Limits (after h)
+
+pub record Promises : Type 0 where
+  pub form_exact : FormExact
+  pub assume_exact : AssumeExact
+  pub truth_exact : TruthExact
+  pub refute_exact : RefuteExact
+  pub held_exactly : HeldExactly
+  pub rows_tell : RowsTell
+  pub rest_stays : RestStays
+  pub refusals_change_nothing : RefusalsChangeNothing
+  pub formulas_formed : FormulasFormed
+  pub assumptions_assumed : AssumptionsAssumed
+  pub refutations_held : RefutationsHeld
+  pub refutations_have_runs : RefutationsHaveRuns
+  pub counts_tell : CountsTell
+  pub standing_tells : StandingTells
+  pub scratch_suffices : ScratchSuffices 4096
+  pub entries_tell : EntriesTell
+  pub limits_kept : LimitsKept
