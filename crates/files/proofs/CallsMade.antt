@@ -1,62 +1,78 @@
 -- Reading a file's front or body is making its records' calls.
-use Rattle.std.proofs.Common.{◌≡◌, ℕ, ◌+◌, List, ◌∷◌, length, drop, Ok, Err, Result, sym, refl, ◌∙◌}
+use Rattle.std.proofs.Common.{◌≡◌, ℕ, ◌+◌, List, ◌∷◌, length, drop, Ok, Err, Result, refl, ◌∙◌, subst}
 use Rattle.refusals.specs.declared.Refusal.{Refusal}
 use Rattle.refusals.proofs.Answers.{ok_not_err}
-use Rattle.cases.specs.Case as cases
-use Rattle.cases.specs.Calls as calls
-use Rattle.cases.specs.History.{Stage, open_stage, sealed_stage, Call, form, assume, Leads, no_more, refused_call, answered_call}
+use Rattle.model.specs.Case as cases
+use Rattle.model.specs.Calls as calls
+use Rattle.model.specs.History.{Stage, open_stage, sealed_stage, Call, form, assume, refute, after_call, Refused, Leads, no_more, refused_call, answered_call}
+use Rattle.files.specs.declared.fault.Cause.{Cause}
+use Rattle.files.specs.declared.fault.Cause.TheVariants.{Case}
 use Rattle.files.specs.declared.fault.PayloadFault.{PayloadFault}
-use Rattle.files.specs.declared.payload.Form.{Form}
 use Rattle.files.specs.declared.payload.FrontRecord.{FrontRecord}
 use Rattle.files.specs.declared.payload.FrontRecord.TheVariants.{FormRecord, AssumeRecord, SealRecord}
 use Rattle.files.specs.Records.{Records, none, bad, more, records}
-use Rattle.files.specs.Payloads.{record_of_front, record_of_body}
-use Rattle.files.specs.Reading.{Reading, called, front_step, front_from, front, body_step, body_from}
-use Rattle.files.proofs.Left.{body_inside}
+use Rattle.files.specs.Payloads.{record_of_front, Request, form_request, refute_request, record_of_body}
+use Rattle.files.specs.Reading.{called, Reading, stopped, front_step, front_from, front, BodyReading, body_stopped, asked, body_called, body_step, body_from}
 use Rattle.files.specs.CallsMade.{front_call, front_calls, body_call, body_calls, FrontMakesCalls, BodyMakesCalls}
+use Rattle.files.proofs.Scratch.{asked_length}
+use Rattle.files.proofs.Left.{body_inside}
 
--- what a form record's call answered decides whether the calls behind it are made
-module _ {A : Type 0} (c : cases.Case) (at : ℕ) (go : cases.Case → Reading A) where
-  form_leads : (s : Stage) (kind left right : ℕ) (xs : List (Call s)) → ((d : cases.Case) → Leads s d xs (go d).after)
-      → (a : Result ℕ Refusal) → (calls.form c kind left right).answer ≡ a
-      → Leads s c (form kind left right ∷ xs) (called at a (calls.form c kind left right).after go).after
-  form_leads s kind left right xs on (Ok n) is = answered_call (λ e no_way. ok_not_err (sym is ∙ no_way)) (on (calls.form c kind left right).after)
-  form_leads s kind left right xs on (Err e) is = refused_call e is
+-- what a call answered decides whether the calls behind it are made
+module _ {R : Type 0} (case_of : R → cases.Case) (s : Stage) (c : cases.Case) (x : Call s) (xs : List (Call s)) (at : ℕ) (stop : Cause → ℕ → R) (go : R) where
+  call_leads : (a : Result ℕ Refusal) → ((e : Refusal) → Refused c x e → a ≡ Err e) → ((e : Refusal) → a ≡ Err e → Refused c x e)
+      → ((e : Cause) → after_call c x ≡ case_of (stop e at)) → Leads s (after_call c x) xs (case_of go) → Leads s c (x ∷ xs) (case_of (called at a stop go))
+  call_leads (Ok n) tells refused ends on = answered_call (λ e no_way. ok_not_err (tells e no_way)) on
+  call_leads (Err e) tells refused ends on = subst (Leads s c (x ∷ xs)) (ends (Case e)) (refused_call e (refused e refl))
 
-  assume_leads : (f : ℕ) (xs : List (Call open_stage)) → ((d : cases.Case) → Leads open_stage d xs (go d).after)
-      → (a : Result ℕ Refusal) → (calls.assume c f).answer ≡ a → Leads open_stage c (assume f ∷ xs) (called at a (calls.assume c f).after go).after
-  assume_leads f xs on (Ok n) is = answered_call (λ e no_way. ok_not_err (sym is ∙ no_way)) (on (calls.assume c f).after)
-  assume_leads f xs on (Err e) is = refused_call e is
-
-front_step_leads : (c : cases.Case) (at behind : ℕ) (r : Result FrontRecord PayloadFault) (go : cases.Case → Reading ℕ) (xs : List (Call open_stage))
-    → ((d : cases.Case) → Leads open_stage d xs (go d).after) → Leads open_stage c (front_call r xs) (front_step c at behind r go).after
-front_step_leads c at behind (Ok (FormRecord f)) go xs on = form_leads c at go open_stage f.kind f.left f.right xs on (calls.form c f.kind f.left f.right).answer refl
-front_step_leads c at behind (Ok (AssumeRecord f)) go xs on = assume_leads c at go f xs on (calls.assume c f).answer refl
-front_step_leads c at behind (Ok SealRecord) go xs on = no_more
-front_step_leads c at behind (Err e) go xs on = no_more
+module _ (c : cases.Case) (at : ℕ) (go : cases.Case → Reading) (xs : List (Call open_stage)) (on : (d : cases.Case) → Leads open_stage d xs (go d).after) where
+  front_step_leads : (behind : ℕ) (r : Result FrontRecord PayloadFault) → Leads open_stage c (front_call r xs) (front_step c at behind r go).after
+  front_step_leads behind (Ok (FormRecord f)) =
+      let o = calls.form c f.kind f.left f.right in
+      call_leads (λ (r : Reading). r.after) open_stage c (form f.kind f.left f.right) xs at (stopped o.after) (go o.after) o.answer
+      (λ e is. is) (λ e is. is) (λ e. refl) (on o.after)
+  front_step_leads behind (Ok (AssumeRecord f)) =
+      let o = calls.assume c f in
+      call_leads (λ (r : Reading). r.after) open_stage c (assume f) xs at (stopped o.after) (go o.after) o.answer
+      (λ e is. is) (λ e is. is) (λ e. refl) (on o.after)
+  front_step_leads behind (Ok SealRecord) = no_more
+  front_step_leads behind (Err e) = no_more
 
 front_leads : (c : cases.Case) (at : ℕ) (rs : Records) → Leads open_stage c (front_calls rs) (front_from c at rs).after
 front_leads c at none = no_more
 front_leads c at (bad e) = no_more
 front_leads c at (more kind payload rest) =
-    front_step_leads c at (at + 4 + length payload) (record_of_front kind payload) (λ d. front_from d (at + 4 + length payload) rest) (front_calls rest)
-    (λ d. front_leads d (at + 4 + length payload) rest)
+    front_step_leads c at (λ d. front_from d (at + 4 + length payload) rest) (front_calls rest)
+    (λ d. front_leads d (at + 4 + length payload) rest) (at + 4 + length payload) (record_of_front kind payload)
 
 pub front_makes_calls : FrontMakesCalls
 unfolding front
 front_makes_calls c bytes = front_leads c 0 (records bytes)
 
-body_step_leads : (c : cases.Case) (at : ℕ) (r : Result Form PayloadFault) (go : cases.Case → Reading (Unit {0})) (xs : List (Call sealed_stage))
-    → ((d : cases.Case) → Leads sealed_stage d xs (go d).after) → Leads sealed_stage c (body_call r xs) (body_step c at r go).after
-body_step_leads c at (Ok f) go xs on = form_leads c at go sealed_stage f.kind f.left f.right xs on (calls.form c f.kind f.left f.right).answer refl
-body_step_leads c at (Err e) go xs on = no_more
+module _ (c : cases.Case) (words : List ℕ) (at : ℕ) (go : cases.Case → List ℕ → BodyReading) (xs : List (Call sealed_stage)) where
+  body_call_leads : (x : Request) → Leads sealed_stage (asked c words x).after xs (go (asked c words x).after (asked c words x).scratch).after
+      → Leads sealed_stage c (body_call (length words) (Ok x) xs) (body_called at (asked c words x) go).after
+  body_call_leads (form_request f) on =
+      let o = asked c words (form_request f) in
+      call_leads (λ (r : BodyReading). r.after) sealed_stage c (form f.kind f.left f.right) xs at (body_stopped o.after o.scratch) (go o.after o.scratch)
+      o.answer (λ e is. is) (λ e is. is) (λ e. refl) on
+  body_call_leads (refute_request claim r) on =
+      let o = asked c words (refute_request claim r) in
+      call_leads (λ (r : BodyReading). r.after) sealed_stage c (refute r claim.formula claim.position (length words)) xs at (body_stopped o.after o.scratch) (go o.after o.scratch)
+      o.answer (λ e is. is) (λ e is. is) (λ e. refl) on
 
-body_leads : (c : cases.Case) (at : ℕ) (rs : Records) → Leads sealed_stage c (body_calls rs) (body_from c at rs).after
-body_leads c at none = no_more
-body_leads c at (bad e) = no_more
-body_leads c at (more kind payload rest) =
-    body_step_leads c at (record_of_body kind payload) (λ d. body_from d (at + 4 + length payload) rest) (body_calls rest)
-    (λ d. body_leads d (at + 4 + length payload) rest)
+  -- the calls behind are made with as many scratch words
+  body_step_leads : (r : Result Request PayloadFault) → ((d : cases.Case) (left : List ℕ) → length left ≡ length words → Leads sealed_stage d xs (go d left).after)
+      → Leads sealed_stage c (body_call (length words) r xs) (body_step c words at r go).after
+  body_step_leads (Ok x) on = body_call_leads x (on (asked c words x).after (asked c words x).scratch (asked_length c words x))
+  body_step_leads (Err e) on = no_more
+
+body_leads : (n : ℕ) (c : cases.Case) (words : List ℕ) → length words ≡ n → (at : ℕ) (rs : Records) → Leads sealed_stage c (body_calls n rs) (body_from c words at rs).after
+body_leads n c words few at none = no_more
+body_leads n c words few at (bad e) = no_more
+body_leads n c words few at (more kind payload rest) =
+    let behind = at + 4 + length payload in
+    subst (λ (k : ℕ). Leads sealed_stage c (body_call k (record_of_body kind payload) (body_calls n rest)) (body_from c words at (more kind payload rest)).after) few
+    (body_step_leads c words at (λ d left. body_from d left behind rest) (body_calls n rest) (record_of_body kind payload) (λ d left same. body_leads n d left (same ∙ few) behind rest))
 
 pub body_makes_calls : BodyMakesCalls
-body_makes_calls c start bytes within = rw (body_inside c start bytes within) (body_leads c start (records (drop start bytes)))
+body_makes_calls c start words bytes within = rw (body_inside c start words bytes within) (body_leads (length words) c words refl start (records (drop start bytes)))

@@ -2,18 +2,18 @@
 use Rattle.std.proofs.Common.{ℕ, zero, suc, ◌+◌, ◌≤◌, eqb, List, length, drop, Some, None, Ok, Err, Option, Result, arith, length-drop, length-take}
 use lib.Dec
 use Rattle.std.proofs.lemmas.Bool.{cond_both, ltb-false}
-use Rattle.refusals.specs.declared.Refusal.{Refusal}
-use Rattle.cases.specs.Case as cases
-use Rattle.cases.specs.Calls as calls
+use Rattle.runs.specs.Bytes.{word}
+use Rattle.model.specs.Case as cases
+use Rattle.model.specs.Calls as calls
 use Rattle.files.specs.declared.fault.Fault.{Fault}
 use Rattle.files.specs.declared.fault.PayloadFault.{PayloadFault}
 use Rattle.files.specs.declared.fault.RecordFault.{RecordFault}
-use Rattle.files.specs.declared.payload.Form.{Form}
 use Rattle.files.specs.declared.payload.FrontRecord.{FrontRecord}
 use Rattle.files.specs.declared.payload.FrontRecord.TheVariants.{FormRecord, AssumeRecord, SealRecord}
-use Rattle.files.specs.Records.{Content, Records, none, bad, more, word, first_content, led_by, cut, records}
-use Rattle.files.specs.Payloads.{record_of_front, record_of_body}
-use Rattle.files.specs.Reading.{Reading, called, front_step, front_from, front, body_step, body_from, body}
+use Rattle.files.specs.Records.{Content, Records, none, bad, more, first_content, led_by, cut, records}
+use Rattle.files.specs.Payloads.{record_of_front, Request, record_of_body}
+use Rattle.files.specs.Reading.{Reading, stopped, front_called, front_step, front_from, front, BodyReading, body_stopped, asked, body_step, body_from, body}
+use Rattle.files.proofs.Called.{called_both}
 use Rattle.files.proofs.Left.{body_inside}
 
 -- how many bytes records take up
@@ -59,25 +59,23 @@ BodyWithin n (Ok done) = Unit {0}
 BodyWithin n (Err f) = f.offset ≤ n
 
 module _ (n at : ℕ) (at_in : at ≤ n) where
-  front_called : (a : Result ℕ Refusal) (c : cases.Case) (go : cases.Case → Reading ℕ) → ((d : cases.Case) → FrontWithin n (go d).answer) → FrontWithin n (called at a c go).answer
-  front_called (Ok k) c go rest = rest c
-  front_called (Err e) c go rest = at_in
+  front_made : (o : calls.Outcome ℕ) (go : cases.Case → Reading) → ((d : cases.Case) → FrontWithin n (go d).answer) → FrontWithin n (front_called at o go).answer
+  front_made o go rest = called_both at (stopped o.after) (go o.after) (λ (r : Reading). FrontWithin n r.answer) o.answer (λ _. at_in) (rest o.after)
 
-  front_stepped : (c : cases.Case) (behind : ℕ) → behind ≤ n → (r : Result FrontRecord PayloadFault) (go : cases.Case → Reading ℕ)
+  front_stepped : (c : cases.Case) (behind : ℕ) → behind ≤ n → (r : Result FrontRecord PayloadFault) (go : cases.Case → Reading)
       → ((d : cases.Case) → FrontWithin n (go d).answer) → FrontWithin n (front_step c at behind r go).answer
-  front_stepped c behind behind_in (Ok (FormRecord f)) go rest = front_called (calls.form c f.kind f.left f.right).answer _ go rest
-  front_stepped c behind behind_in (Ok (AssumeRecord f)) go rest = front_called (calls.assume c f).answer _ go rest
+  front_stepped c behind behind_in (Ok (FormRecord f)) go rest = front_made (calls.form c f.kind f.left f.right) go rest
+  front_stepped c behind behind_in (Ok (AssumeRecord f)) go rest = front_made (calls.assume c f) go rest
   front_stepped c behind behind_in (Ok SealRecord) go rest = behind_in
   front_stepped c behind behind_in (Err e) go rest = at_in
 
-  body_stepped : (c : cases.Case) (r : Result Form PayloadFault) (go : cases.Case → Reading (Unit {0}))
-      → ((d : cases.Case) → BodyWithin n (go d).answer) → BodyWithin n (body_step c at r go).answer
-  body_stepped c (Ok f) go rest = body_called (calls.form c f.kind f.left f.right).answer
-    where
-      body_called : (a : Result ℕ Refusal) → BodyWithin n (called at a (calls.form c f.kind f.left f.right).after go).answer
-      body_called (Ok k) = rest _
-      body_called (Err e) = at_in
-  body_stepped c (Err e) go rest = at_in
+  body_stepped : (c : cases.Case) (words : List ℕ) (r : Result Request PayloadFault) (go : cases.Case → List ℕ → BodyReading)
+      → ((d : cases.Case) (left : List ℕ) → BodyWithin n (go d left).answer) → BodyWithin n (body_step c words at r go).answer
+  body_stepped c words (Ok x) go rest =
+      let o = asked c words x in
+      called_both at (body_stopped o.after o.scratch) (go o.after o.scratch) (λ (r : BodyReading). BodyWithin n r.answer) o.answer (λ _. at_in)
+      (rest o.after o.scratch)
+  body_stepped c words (Err e) go rest = at_in
 
 front_from_within : (n : ℕ) (c : cases.Case) (at : ℕ) (rs : Records) → at + extent rs ≤ n → FrontWithin n (front_from c at rs).answer
 front_from_within n c at none l = omega arith
@@ -86,17 +84,18 @@ front_from_within n c at (more kind payload rest) l =
     front_stepped n at (omega arith) c (at + 4 + length payload) (omega arith) (record_of_front kind payload) _
     (λ d. front_from_within n d (at + 4 + length payload) rest (omega arith))
 
-body_from_within : (n : ℕ) (c : cases.Case) (at : ℕ) (rs : Records) → at + extent rs ≤ n → BodyWithin n (body_from c at rs).answer
-body_from_within n c at none l = tt
-body_from_within n c at (bad e) l = omega arith
-body_from_within n c at (more kind payload rest) l =
-    body_stepped n at (omega arith) c (record_of_body kind payload) _ (λ d. body_from_within n d (at + 4 + length payload) rest (omega arith))
+body_from_within : (n : ℕ) (c : cases.Case) (words : List ℕ) (at : ℕ) (rs : Records) → at + extent rs ≤ n → BodyWithin n (body_from c words at rs).answer
+body_from_within n c words at none l = tt
+body_from_within n c words at (bad e) l = omega arith
+body_from_within n c words at (more kind payload rest) l =
+    body_stepped n at (omega arith) c words (record_of_body kind payload) _
+    (λ d left. body_from_within n d left (at + 4 + length payload) rest (omega arith))
 
 pub front_within : (c : cases.Case) (bytes : List ℕ) → FrontWithin (length bytes) (front c bytes).answer
 unfolding front
 front_within c bytes = front_from_within (length bytes) c 0 (records bytes) (omega (arith, records_extent bytes))
 
-pub body_within : (c : cases.Case) (start : ℕ) (bytes : List ℕ) → start ≤ length bytes → BodyWithin (length bytes) (body c start bytes).answer
-body_within c start bytes within =
-    rw (body_inside c start bytes within)
-    (body_from_within (length bytes) c start (records (drop start bytes)) (omega (arith, records_extent (drop start bytes), length-drop start bytes)))
+pub body_within : (c : cases.Case) (start : ℕ) (words bytes : List ℕ) → start ≤ length bytes → BodyWithin (length bytes) (body c start words bytes).answer
+body_within c start words bytes within =
+    rw (body_inside c start words bytes within)
+    (body_from_within (length bytes) c words start (records (drop start bytes)) (omega (arith, records_extent (drop start bytes), length-drop start bytes)))

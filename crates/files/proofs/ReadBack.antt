@@ -4,7 +4,8 @@ use native.Mathlib.Nat.{mod-add-div}
 use Rattle.std.proofs.ByRecursion.{All-append}
 use Rattle.std.proofs.lemmas.List.{length-append, take_at, drop_at, drop-drop}
 use Rattle.std.proofs.lemmas.Bool.{cond-false, ne_eqb, le-ltb}
-use Rattle.files.specs.Records.{Content, more, word, first_content, led_by, records}
+use Rattle.runs.specs.Bytes.{word}
+use Rattle.files.specs.Records.{Content, more, first_content, led_by, records}
 use Rattle.files.specs.WrittenRecords.{two_bytes, written, all_written, Bytes, Writable, RecordsReadBack}
 use Rattle.files.proofs.Cutting.{records_led}
 

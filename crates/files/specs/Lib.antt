@@ -2,6 +2,7 @@ pub mod Faults
 pub mod Records
 pub mod Contents
 pub mod Payloads
+pub mod Requests
 pub mod Reading
 pub mod WrittenRecords
 pub mod CallsMade

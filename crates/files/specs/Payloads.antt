@@ -1,17 +1,29 @@
 -- What a record asks for, by its kind and payload.
-use Rattle.std.specs.Prelude.{ℕ, cond, List, length, Ok, Err, Result, ◌==◌, slice_index}
+use Rattle.std.specs.Prelude.{ℕ, cond, List, length, drop, Ok, Err, Result, ◌==◌, nat_lt, slice_index}
+use Rattle.logic.specs.Run.{Run}
+use Rattle.runs.specs.declared.fault.RunFault.{RunFault}
+use Rattle.runs.specs.Bytes.{word}
+use Rattle.runs.specs.Pulses.{pulse_check, pulse_run}
+use Rattle.runs.specs.Tables.{table_check, table_run}
 use Rattle.files.specs.declared.fault.PayloadFault.{PayloadFault}
 use Rattle.files.specs.declared.fault.PayloadFault.TheVariants.{KindNotAllowed, WrongLength}
+use Rattle.files.specs.declared.payload.Claim.{Claim}
 use Rattle.files.specs.declared.payload.Form as declared
 use Rattle.files.specs.declared.payload.FrontRecord.{FrontRecord}
 use Rattle.files.specs.declared.payload.FrontRecord.TheVariants.{FormRecord, AssumeRecord, SealRecord}
 use Rattle.files.specs.declared.payload.RecordKind.{RecordKind}
-use Rattle.files.specs.declared.payload.RecordKind.TheVariants.{Form, Assume, Seal}
-use Rattle.files.specs.Records.{word}
+use Rattle.files.specs.declared.payload.RecordKind.TheVariants.{Form, Assume, Seal, Table, Pulses}
+use Rattle.files.specs.Faults.{run_fault}
 
 -- the kinds of records by their numbers
 abbrev pub kind_of : ℕ → Result RecordKind PayloadFault
-kind_of kind = cond (kind == 1) (Ok Form) (cond (kind == 2) (Ok Assume) (cond (kind == 3) (Ok Seal) (Err KindNotAllowed)))
+kind_of kind =
+    cond (kind == 1) (Ok Form)
+    (cond (kind == 2) (Ok Assume)
+    (cond (kind == 3) (Ok Seal)
+    (cond (kind == 5) (Ok Table)
+    (cond (kind == 6) (Ok Pulses)
+    (Err KindNotAllowed)))))
 
 -- an answer for a payload that is so many bytes long
 abbrev pub long : {A : Type 0} → ℕ → List ℕ → A → Result A PayloadFault
@@ -29,6 +41,30 @@ record_of_front kind payload =
     (cond (kind == 3) (long 0 payload SealRecord)
     (Err KindNotAllowed)))
 
--- in the body: 1 a formula
-abbrev pub record_of_body : ℕ → List ℕ → Result declared.Form PayloadFault
-record_of_body kind payload = cond (kind == 1) (long 5 payload (form_in payload)) (Err KindNotAllowed)
+-- what a record of the body asks for: to enter a formula, or to hold that a formula is false at a position of a run
+pub data Request : Type 0 where
+  form_request : declared.Form → Request
+  refute_request : Claim → Run → Request
+
+-- the numbers of a formula and of a position in two bytes each
+abbrev pub claim_in : List ℕ → Claim
+claim_in payload = record { formula = word payload 0; position = word payload 2 }
+
+-- an answer for a run's bytes that passed their check
+abbrev pub passed : {A : Type 0} → Result (Unit {0}) RunFault → A → Result A PayloadFault
+passed (Ok done) x = Ok x
+passed (Err e) x = Err (run_fault e)
+
+-- a claim, and behind it the bytes of a run
+abbrev pub refute_in : (List ℕ → Result (Unit {0}) RunFault) → (List ℕ → Run) → List ℕ → Result Request PayloadFault
+refute_in check run payload =
+    cond (nat_lt (length payload) 4) (Err WrongLength)
+    (passed (check (drop 4 payload)) (refute_request (claim_in payload) (run (drop 4 payload))))
+
+-- in the body: 1 a formula, 5 a refutation by a table, 6 one by pulses
+abbrev pub record_of_body : ℕ → List ℕ → Result Request PayloadFault
+record_of_body kind payload =
+    cond (kind == 1) (long 5 payload (form_request (form_in payload)))
+    (cond (kind == 5) (refute_in table_check table_run payload)
+    (cond (kind == 6) (refute_in pulse_check pulse_run payload)
+    (Err KindNotAllowed)))

@@ -1,11 +1,8 @@
 -- A file's bytes as records.
-use Rattle.std.specs.Prelude.{ℕ, zero, suc, ◌+◌, ◌*◌, cond, List, length, take, drop, Some, None, Ok, Err, Option, Result, ◌==◌, nat_lt, slice_index}
+use Rattle.std.specs.Prelude.{ℕ, zero, suc, ◌+◌, cond, List, length, take, drop, Some, None, Ok, Err, Option, Result, ◌==◌, nat_lt}
+use Rattle.runs.specs.Bytes.{word}
 use Rattle.files.specs.declared.fault.RecordFault.{RecordFault}
 use Rattle.files.specs.declared.fault.RecordFault.TheVariants.{ShortHead, PayloadCut}
-
--- the number in the two bytes from a place on, the low one first
-abbrev pub word : List ℕ → ℕ → ℕ
-word bytes at = slice_index bytes at + 256 * slice_index bytes (at + 1)
 
 -- what a record holds
 pub record Content : Type 0 where

@@ -1,23 +1,52 @@
 // Reads the body of a file: what a sealed case is told.
 ghost use Rattle.std.specs.Prelude.{◌≡◌};
 ghost use Rattle.cases.specs.Model.{sealed};
-ghost use Rattle.files.specs.Reading.{body};
+ghost use Rattle.files.specs.Reading.{asked, body};
+ghost use Rattle.files.specs.Requests.{request_of};
 
 use crate::fault::{Fault, at};
-use crate::payload::Form;
+use crate::payload::BodyRecord;
 use crate::record::Records;
 use cases::SealedCase;
+use refusals::Refusal;
 
 // Makes the calls that the records from a start offset on ask for, up to the end of the file.
 #[tactic(auto, using(crate::proofs::Left::body_left))]
-pub fn read_body(case: &mut SealedCase, file: &[u8], start: usize) -> Result<(), Fault>
-    ensures answer { result ≡ (body (sealed case.old) start file.now).answer }
-    ensures after { sealed case.new ≡ (body (sealed case.old) start file.now).after }
+pub fn read_body(
+    case: &mut SealedCase,
+    file: &[u8],
+    start: usize,
+    scratch: &mut [u64],
+) -> Result<(), Fault>
+    ensures answer { result ≡ (body (sealed case.old) start scratch.old file.now).answer }
+    ensures after { sealed case.new ≡ (body (sealed case.old) start scratch.old file.now).after }
+    ensures words { scratch.new ≡ (body (sealed case.old) start scratch.old file.now).scratch }
 {
     for record in Records::new(file, start) {
         let record = record?;
-        let form = at(record.offset, Form::try_from(record))?;
-        at(record.offset, case.form(form.kind, form.left, form.right))?;
+        let request = at(record.offset, BodyRecord::try_from(record))?;
+        at(record.offset, make_call(case, request, scratch))?;
     }
     Ok(())
+}
+
+// Makes the call that a record asks for, and answers its number, which reading needs no more.
+fn make_call(
+    case: &mut SealedCase,
+    request: BodyRecord<'_>,
+    scratch: &mut [u64],
+) -> Result<u16, Refusal>
+    ensures answer { result ≡ (asked (sealed case.old) scratch.old (request_of request.entry)).answer }
+    ensures after { sealed case.new ≡ (asked (sealed case.old) scratch.old (request_of request.entry)).after }
+    ensures words { scratch.new ≡ (asked (sealed case.old) scratch.old (request_of request.entry)).scratch }
+{
+    match request {
+        BodyRecord::FormRecord(form) => case.form(form.kind, form.left, form.right),
+        BodyRecord::TableRecord(claim, table) => {
+            case.refute(&table, claim.formula, claim.position, scratch)
+        }
+        BodyRecord::PulseRecord(claim, pulses) => {
+            case.refute(&pulses, claim.formula, claim.position, scratch)
+        }
+    }
 }

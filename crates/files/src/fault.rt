@@ -1,10 +1,11 @@
 // Why a file is not read on: what is wrong with a record, its payload or its call, and where.
 ghost use Rattle.std.specs.Prelude.{◌≡◌};
-ghost use Rattle.files.specs.Faults.{layer_of, record_number, payload_number, cause_number, placed};
+ghost use Rattle.files.specs.Faults.{layer_of, record_number, payload_number, cause_number, placed, run_fault};
 ghost use Rattle.files.specs.declared.fault.Cause.{Cause};
 ghost use Rattle.files.specs.declared.fault.Cause.TheVariants.{Record, Payload, Case};
 
 use refusals::Refusal;
+use runs::RunFault;
 
 // What is wrong with a record.
 #[derive(Clone, Copy, PartialEq, Eq, Debug)]
@@ -24,6 +25,8 @@ pub enum PayloadFault {
     KindNotAllowed = 23,
     // the length is not that kind's
     WrongLength = 24,
+    // the payload of a refutation is no run
+    NoRun = 26,
 }
 
 #[derive(Clone, Copy, PartialEq, Eq, Debug)]
@@ -53,6 +56,17 @@ pub(crate) fn at<T, E>(offset: usize, answer: Result<T, E>) -> Result<T, ErrorAt
     ensures { result ≡ placed offset answer }
 {
     answer.map_err(|error| ErrorAt { error, offset })
+}
+
+impl From<RunFault> for PayloadFault {
+    ghost from_gives = { λ e f. f ≡ run_fault e };
+
+    fn from(fault: RunFault) -> PayloadFault {
+        match fault {
+            RunFault::WrongLength => PayloadFault::WrongLength,
+            RunFault::NoRun => PayloadFault::NoRun,
+        }
+    }
 }
 
 impl From<RecordFault> for Cause {

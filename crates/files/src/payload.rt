@@ -1,11 +1,15 @@
 // What records ask for, by their kinds and payloads.
 ghost use Rattle.std.specs.Prelude.{◌≡◌};
-ghost use Rattle.files.specs.Payloads.{long, form_in, kind_of, record_of_front, record_of_body};
-ghost use Rattle.files.specs.Records.{word};
+ghost use Rattle.runs.specs.Bytes.{word};
+ghost use Rattle.runs.specs.Pulses.{pulse_check, pulse_run};
+ghost use Rattle.runs.specs.Tables.{table_check, table_run};
+ghost use Rattle.files.specs.Payloads.{long, form_in, claim_in, kind_of, record_of_front, refute_in, record_of_body};
+ghost use Rattle.files.specs.Requests.{requested};
 ghost use Rattle.files.specs.declared.payload.FrontRecord.TheVariants.{AssumeRecord, SealRecord};
 
 use crate::fault::PayloadFault;
 use crate::record::Record;
+use runs::{PulseRun, TableRun};
 
 // The kinds of records.
 #[derive(Clone, Copy)]
@@ -13,6 +17,8 @@ enum RecordKind {
     Form,
     Assume,
     Seal,
+    Table,
+    Pulses,
 }
 
 // A formula to be entered: its kind and its two fields.
@@ -31,6 +37,21 @@ pub enum FrontRecord {
     SealRecord,
 }
 
+// The formula that a refutation breaks, and the position at which it does.
+#[derive(Clone, Copy)]
+pub struct Claim {
+    pub formula: u16,
+    pub position: u16,
+}
+
+// A record of the body. A run stands over the record's bytes, which are not copied.
+#[derive(Clone, Copy)]
+pub enum BodyRecord<'a> {
+    FormRecord(Form),
+    TableRecord(Claim, TableRun<'a>),
+    PulseRecord(Claim, PulseRun<'a>),
+}
+
 impl TryFrom<u16> for RecordKind {
     type Error = PayloadFault;
 
@@ -41,6 +62,8 @@ impl TryFrom<u16> for RecordKind {
             1 => Ok(RecordKind::Form),
             2 => Ok(RecordKind::Assume),
             3 => Ok(RecordKind::Seal),
+            5 => Ok(RecordKind::Table),
+            6 => Ok(RecordKind::Pulses),
             _ => Err(PayloadFault::KindNotAllowed),
         }
     }
@@ -57,20 +80,36 @@ impl TryFrom<Record<'_>> for FrontRecord {
             RecordKind::Form => Ok(FrontRecord::FormRecord(form_record(record.payload)?)),
             RecordKind::Assume => assume_record(record.payload),
             RecordKind::Seal => seal_record(record.payload),
+            RecordKind::Table | RecordKind::Pulses => Err(PayloadFault::KindNotAllowed),
         }
     }
 }
 
-// What a record of the body asks for: that a formula is entered.
-impl TryFrom<Record<'_>> for Form {
+// What a record of the body asks for.
+impl<'a> TryFrom<Record<'a>> for BodyRecord<'a> {
     type Error = PayloadFault;
 
-    ghost try_from_gives = { λ x r. r ≡ record_of_body x.kind x.payload.now };
+    ghost try_from_gives = { λ x r. requested r ≡ record_of_body x.kind x.payload.now };
 
-    fn try_from(record: Record<'_>) -> Result<Form, PayloadFault> {
+    fn try_from(record: Record<'a>) -> Result<BodyRecord<'a>, PayloadFault> {
         match RecordKind::try_from(record.kind)? {
-            RecordKind::Form => form_record(record.payload),
+            RecordKind::Form => Ok(BodyRecord::FormRecord(form_record(record.payload)?)),
+            RecordKind::Table => table_record(record.payload),
+            RecordKind::Pulses => pulse_record(record.payload),
             RecordKind::Assume | RecordKind::Seal => Err(PayloadFault::KindNotAllowed),
+        }
+    }
+}
+
+// The numbers of a formula and of a position, in two bytes each.
+impl From<&[u8; 4]> for Claim {
+    ghost from_gives = { λ bytes claim. claim ≡ claim_in bytes.now };
+
+    fn from(bytes: &[u8; 4]) -> Claim {
+        let [formula_low, formula_high, position_low, position_high] = *bytes;
+        Claim {
+            formula: u16::from_le_bytes([formula_low, formula_high]),
+            position: u16::from_le_bytes([position_low, position_high]),
         }
     }
 }
@@ -107,4 +146,24 @@ fn seal_record(payload: &[u8]) -> Result<FrontRecord, PayloadFault>
         return Err(PayloadFault::WrongLength);
     };
     Ok(FrontRecord::SealRecord)
+}
+
+// A claim, and a run that tells each position's atoms.
+fn table_record(payload: &[u8]) -> Result<BodyRecord<'_>, PayloadFault>
+    ensures { requested result ≡ refute_in table_check table_run payload.now }
+{
+    let (claim, run) = payload
+        .split_first_chunk()
+        .ok_or(PayloadFault::WrongLength)?;
+    Ok(BodyRecord::TableRecord(Claim::from(claim), TableRun::try_from(run)?))
+}
+
+// A claim, and a run whose atoms come in pulses.
+fn pulse_record(payload: &[u8]) -> Result<BodyRecord<'_>, PayloadFault>
+    ensures { requested result ≡ refute_in pulse_check pulse_run payload.now }
+{
+    let (claim, run) = payload
+        .split_first_chunk()
+        .ok_or(PayloadFault::WrongLength)?;
+    Ok(BodyRecord::PulseRecord(Claim::from(claim), PulseRun::try_from(run)?))
 }

@@ -8,5 +8,5 @@ use Rattle.files.proofs.body.read_body.Given as goal
 abbrev pub invariant-loop-record : goal.invariant-loop-record
 invariant-loop-record l = record {
   file : l.record-iterator.file.now ≡ l.file;
-  rest : body (sealed l.initial.case) l.start l.file ≡ body_from (sealed l.case) l.record-iterator.offset (left l.record-iterator);
+  rest : body (sealed l.initial.case) l.start l.initial.scratch l.file ≡ body_from (sealed l.case) l.scratch l.record-iterator.offset (left l.record-iterator);
 }
