@@ -1,35 +1,25 @@
--- A listing of a case within its limits has at most 256 bytes.
-use Rattle.std.proofs.Common.{◌≡◌, ℕ, ◌^◌, ◌<◌, ◌≤◌, length, Ok, Err, Result, ap, arith, lit<, length-append}
-use Rattle.refusals.specs.declared.Refusal.TheVariants.{UnknownKind, BadField, FormulasFull, NotEntered, AssumptionsFull}
-use Rattle.cases.specs.declared.counts.Counts.{Counts}
-use Rattle.cases.specs.Reads.{counts_of}
+-- A listing of a case within its limits has at most 20,480 bytes.
+use Rattle.std.proofs.Common.{◌≡◌, ℕ, zero, suc, ◌*◌, ◌^◌, ◌<◌, ◌≤◌, Bool, List, [], ◌∷◌, length, ltb, Some, None, Ok, Err, Option, Result, refl, ap, arith, length-append}
+use Rattle.std.specs.List.{position}
+use Rattle.std.proofs.lemmas.Bool.{cond_both, ltb-true}
+use Rattle.std.proofs.lemmas.List.Quantifiers.{position-Some}
+use Rattle.refusals.specs.declared.Refusal.TheVariants.{NotEntered}
+use Rattle.model.specs.Case.{Case}
+use Rattle.model.specs.Reads.{counts_of, standing_by, first_line, first_refutation_of, standing_in}
+use Rattle.model.specs.declared.counts.Counts.{Counts}
 use Rattle.files.specs.Faults.{layer_of, cause_number}
-use Rattle.files.specs.declared.fault.RecordFault.TheVariants.{ShortHead, PayloadCut, NoSeal}
-use Rattle.files.specs.declared.fault.PayloadFault.TheVariants.{KindNotAllowed, WrongLength}
 use Rattle.files.specs.declared.fault.Cause.{Cause}
-use Rattle.files.specs.declared.fault.Cause.TheVariants.{Record, Payload, Case as Called}
 use Rattle.listing.specs.declared.unread.Unread.{Unread}
 use Rattle.listing.specs.declared.unread.Unread.TheVariants.{TooLong, Refused}
-use Rattle.listing.specs.Listing.{line_of_counts, line_of_ending}
+use Rattle.listing.specs.Listing.{line_of_counts, line_of_standing, standing_lines_to, line_of_ending}
 use Rattle.listing.specs.Room.{Fits64, AlwaysRoom}
-use Rattle.listing.proofs.Spelling.{decimal_short}
+use Rattle.listing.proofs.Spelling.{decimal_short, digits_four}
 
 layer_small : (e : Cause) → layer_of e < 2 ^ 64
-layer_small (Record e) = lit< tt
-layer_small (Payload e) = lit< tt
-layer_small (Called e) = lit< tt
+layer_small e = grind arith
 
 number_small : (e : Cause) → cause_number e < 2 ^ 64
-number_small (Record ShortHead) = lit< tt
-number_small (Record PayloadCut) = lit< tt
-number_small (Record NoSeal) = lit< tt
-number_small (Payload KindNotAllowed) = lit< tt
-number_small (Payload WrongLength) = lit< tt
-number_small (Called UnknownKind) = lit< tt
-number_small (Called BadField) = lit< tt
-number_small (Called FormulasFull) = lit< tt
-number_small (Called NotEntered) = lit< tt
-number_small (Called AssumptionsFull) = lit< tt
+number_small e = grind arith
 
 counts_short : (n : Counts) → n.formulas < 2 ^ 64 → n.assumptions < 2 ^ 64 → n.lines < 2 ^ 64 → n.refutations < 2 ^ 64
     → length (line_of_counts n) ≤ 128
@@ -51,10 +41,50 @@ ending_short (Err (Refused f)) fits =
     simp length-append (omega arith)
 ending_short (Err TooLong) fits = omega arith
 
-pub always_room : AlwaysRoom 256
+-- the place that is found is in the list
+found_below : {X : Type 0} (p : X → Bool) (xs : List X) (k : ℕ) → position p xs ≡ Some k → k < length xs
+found_below p [] k found = cc
+found_below p (x ∷ xs) k found = (position-Some p (x ∷ xs) k x found).0
+
+-- a formula's line, if its number and that of its first line or refutation have at most four digits
+line_short : (f : ℕ) (derived refuted : Option ℕ) → f < 10 ^ 4 → ((k : ℕ) → derived ≡ Some k → k < 10 ^ 4)
+    → ((k : ℕ) → refuted ≡ Some k → k < 10 ^ 4) → length (line_of_standing f (Ok (standing_by derived refuted))) ≤ 18
+unfolding line_of_standing
+line_short f (Some k) refuted small lines refutations =
+    let number = digits_four f small in
+    let first = digits_four k (lines k refl) in
+    simp length-append (omega arith)
+line_short f None (Some k) small lines refutations =
+    let number = digits_four f small in
+    let first = digits_four k (refutations k refl) in
+    simp length-append (omega arith)
+line_short f None None small lines refutations = omega arith
+
+module _ (c : Case) (formulas : length c.formulas ≤ 10 ^ 4) (lines : length c.lines ≤ 10 ^ 4) (refutations : length c.refutations ≤ 10 ^ 4) where
+  -- only an entered formula has a line
+  standing_short : (f : ℕ) → length (line_of_standing f (standing_in c f)) ≤ 18
+  unfolding line_of_standing
+  standing_short f =
+      cond_both (ltb f (length c.formulas)) (Ok (standing_by (first_line c f) (first_refutation_of c f))) (Err NotEntered)
+      (λ r. length (line_of_standing f r) ≤ 18)
+      (λ entered. line_short f (first_line c f) (first_refutation_of c f)
+      (omega (arith, ltb-true f (length c.formulas) entered))
+      (λ k is. omega (arith, found_below _ c.lines k is))
+      (λ k is. omega (arith, found_below _ c.refutations k is)))
+      (λ _. omega arith)
+
+  standings_short : (f : ℕ) → length (standing_lines_to c f) ≤ 18 * f
+  unfolding standing_lines_to
+  standings_short zero = omega arith
+  standings_short (suc f) =
+      let earlier = standings_short f in
+      let last = standing_short f in
+      simp length-append (omega arith)
+
+pub always_room : AlwaysRoom 20480
 always_room c e within fits =
     let lines : length c.lines ≡ 0 = ap length within.no_lines in
-    let refutations : length c.refutations ≡ 0 = ap length within.no_refutations in
     let first = counts_short (counts_of c) (omega arith) (omega arith) (omega arith) (omega arith) in
+    let standings = standings_short c (omega arith) (omega arith) (omega arith) (length c.formulas) in
     let last = ending_short e fits in
     simp length-append (omega arith)

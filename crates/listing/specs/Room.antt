@@ -1,7 +1,7 @@
 -- How long a listing can be.
 use Rattle.std.specs.Prelude.{ℕ, ◌^◌, ◌<◌, ◌≤◌, length, Ok, Err, Result}
-use Rattle.cases.specs.Case.{Case}
-use Rattle.cases.specs.Limits.{Limits}
+use Rattle.model.specs.Case.{Case}
+use Rattle.model.specs.Limits.{Limits}
 use Rattle.listing.specs.declared.unread.Unread.{Unread}
 use Rattle.listing.specs.declared.unread.Unread.TheVariants.{TooLong, Refused}
 use Rattle.listing.specs.Listing.{listing}

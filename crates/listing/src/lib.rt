@@ -1,9 +1,10 @@
-// The listing of a case: its counts, and how the reading of its file ended.
+// The listing of a case: its counts, how its formulas stand, and how the reading of its file ended.
 #![tactic(auto)]
 
 mod line;
 mod lines;
 mod refusal;
+mod standings;
 mod unread;
 mod writing;
 

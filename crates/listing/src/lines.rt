@@ -1,10 +1,12 @@
 // The lines of a listing.
-ghost use Rattle.std.specs.Prelude.{◌≡◌, Ok, Err};
-ghost use Rattle.listing.specs.Listing.{line_of_counts, line_of_ending};
+ghost use Rattle.std.specs.Prelude.{◌≡◌, ◌+◌, ◌≤◌, ◌++◌, length, decimal, Ok, Err};
+ghost use Rattle.model.specs.Reads.{standing_in};
+ghost use Rattle.cases.specs.Model.{sealed};
+ghost use Rattle.listing.specs.Listing.{line, line_of_counts, line_of_standing, line_of_ending};
 
 use crate::line::Line;
 use crate::unread::Unread;
-use cases::Counts;
+use cases::{Counts, SealedCase, Standing};
 
 // How many of each a case has.
 #[tactic(auto, unfolding(crate::specs::Listing::line_of_counts))]
@@ -16,6 +18,41 @@ pub(crate) fn counts_line(counts: Counts) -> Line
     line.add_field(b" assumptions ", counts.assumptions);
     line.add_field(b" lines ", counts.lines);
     line.add_field(b" refutations ", counts.refutations);
+    line.end();
+    line
+}
+
+// The line of the formula with a number: an empty one if it is open, or not entered.
+#[tactic(auto, unfolding(crate::specs::Listing::line_of_standing))]
+pub(crate) fn formula_line(case: &SealedCase, number: u16) -> Line
+    ensures { result ≡ line_of_standing number (standing_in (sealed case.now) number) }
+{
+    match case.standing(number) {
+        Ok(standing) => standing_line(number, standing),
+        Err(_) => Line::new(),
+    }
+}
+
+// How the formula with a number stands: an empty line for an open one.
+#[tactic(auto, unfolding(crate::specs::Listing::line_of_standing))]
+fn standing_line(number: u16, standing: Standing) -> Line
+    ensures { result ≡ line_of_standing number (Ok standing) }
+{
+    match standing {
+        Standing::Derived(first) => settled_line(number, b" derived ", first),
+        Standing::Refuted(first) => settled_line(number, b" refuted ", first),
+        Standing::Open => Line::new(),
+    }
+}
+
+// The line of a formula that is not open: its number, a word for how it stands, and the number that it stands by.
+fn settled_line(number: u16, word: &[u8], first: u16) -> Line
+    requires { length word.now ≤ 20 }
+    ensures { result ≡ line (decimal number ++ word.now ++ decimal first) }
+{
+    let mut line = Line::new();
+    line.add_field(b"", usize::from(number));
+    line.add_field(word, usize::from(first));
     line.end();
     line
 }

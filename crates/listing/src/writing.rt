@@ -7,14 +7,15 @@ ghost use Rattle.listing.specs.Written.{written_answer, written_after};
 
 use crate::lines::{counts_line, ending_line};
 use crate::refusal::ListingRefusal;
+use crate::standings::{copy_standings, standings_len};
 use crate::unread::Unread;
 use cases::SealedCase;
 
 // A buffer of so many bytes is never too short.
-pub const LISTING_MOST: usize = 256;
+pub const LISTING_MOST: usize = 20_480;
 
-// Writes the listing to the front of a buffer, and answers its length. Each line is made and measured before the
-// first is copied, so that a buffer which is too short stays as it is. Into a caller's buffer, and no `Vec`: nothing is
+// Writes the listing to the front of a buffer, and answers its length. All lines are measured before the first is
+// copied, so that a buffer which is too short stays as it is. Into a caller's buffer, and no `Vec`: nothing is
 // allocated after a case is made.
 #[tactic(auto, using(crate::proofs::Room::always_room))]
 pub fn write_listing(
@@ -26,14 +27,19 @@ pub fn write_listing(
     ensures after { buffer.new ≡ written_after (listing (sealed case.now) ending) buffer.old }
     ensures enough { AlwaysRoom LISTING_MOST }
 {
-    let first = counts_line(case.counts());
+    let counts = case.counts();
+    let formulas = counts.formulas as u16;
+    let first = counts_line(counts);
     let last = ending_line(ending);
     let (first, last) = (first.as_slice(), last.as_slice());
-    let (at, end) = (first.len(), first.len() + last.len());
+    let at = first.len();
+    let behind = at + standings_len(case, formulas);
+    let end = behind + last.len();
     if end > buffer.len() {
         return Err(ListingRefusal::BufferTooShort);
     }
     buffer[..at].copy_from_slice(first);
-    buffer[at..end].copy_from_slice(last);
+    copy_standings(case, formulas, &mut buffer[at..behind]);
+    buffer[behind..end].copy_from_slice(last);
     Ok(end)
 }
