@@ -1,20 +1,20 @@
 -- What a file comes to, by its length and by what its front answered.
 use Rattle.std.proofs.Common.{◌≡◌, ℕ, ◌<◌, ◌≤◌, leb, List, length, Err, Result, sym, ◌∙◌}
 use Rattle.std.proofs.lemmas.Bool.{cond-true, cond-false, le-leb, lt-leb}
-use Rattle.cases.specs.Case.{Case}
+use Rattle.model.specs.Case.{Case}
 use Rattle.files.specs.declared.fault.Fault.{Fault}
 use Rattle.files.specs.Reading.{front}
 use Rattle.listing.specs.declared.unread.Unread.TheVariants.{TooLong}
 use Rattle.checker.specs.Checked.{from_front, checked}
 
-module _ (c : Case) (bytes : List ℕ) where
-  pub checked_long : 16384 < length bytes → record { case = c; ending = Err TooLong } ≡ checked c bytes
+module _ (c : Case) (words bytes : List ℕ) where
+  pub checked_long : 16384 < length bytes → record { case = c; ending = Err TooLong; scratch = words } ≡ checked c words bytes
   unfolding checked
   checked_long long = sym (cond-false (leb (length bytes) 16384) _ _ (lt-leb (length bytes) 16384 long))
 
   -- the front's answer and the case after it are given by equations
-  pub checked_front : length bytes ≤ 16384 → (r : Result ℕ Fault) → r ≡ (front c bytes).answer → (d : Case) → d ≡ (front c bytes).after → from_front bytes r d ≡ checked c bytes
+  pub checked_front : length bytes ≤ 16384 → (r : Result ℕ Fault) → r ≡ (front c bytes).answer → (d : Case) → d ≡ (front c bytes).after → from_front words bytes r d ≡ checked c words bytes
   unfolding checked
   checked_front short r is d after =
-      (λ i. from_front bytes (is i) (after i))
-      ∙ sym (cond-true (leb (length bytes) 16384) (from_front bytes (front c bytes).answer (front c bytes).after) _ (le-leb (length bytes) 16384 short))
+      (λ i. from_front words bytes (is i) (after i))
+      ∙ sym (cond-true (leb (length bytes) 16384) (from_front words bytes (front c bytes).answer (front c bytes).after) _ (le-leb (length bytes) 16384 short))

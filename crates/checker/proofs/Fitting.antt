@@ -1,10 +1,10 @@
 -- The listing of every file fits the program's buffer.
 use Rattle.std.proofs.Common.{ℕ, ◌≤◌, leb, List, length, Ok, Err, Result, sym, subst, arith}
 use Rattle.std.proofs.lemmas.Bool.{cond_both, leb-true}
-use Rattle.cases.specs.Case.{Case}
-use Rattle.cases.specs.History.{sealed_stage, after}
-use Rattle.cases.specs.Limits.{Limits}
-use Rattle.cases.proofs.Histories.{limits_kept}
+use Rattle.model.specs.Case.{Case}
+use Rattle.model.specs.History.{sealed_stage, after}
+use Rattle.model.specs.Limits.{Limits}
+use Rattle.model.proofs.Histories.{limits_kept}
 use Rattle.files.specs.declared.fault.Fault.{Fault}
 use Rattle.files.specs.Reading.{front, body}
 use Rattle.files.proofs.Extents.{FrontWithin, BodyWithin, front_within, body_within}
@@ -20,20 +20,20 @@ ended_fits : (n : ℕ) → n ≤ 16384 → (r : Result (Unit {0}) Fault) → Bod
 ended_fits n small (Ok done) within = omega arith
 ended_fits n small (Err f) within = omega arith
 
-from_front_fits : (bytes : List ℕ) → length bytes ≤ 16384 → (r : Result ℕ Fault) (c : Case) → FrontWithin (length bytes) r → Fits64 (from_front bytes r c).ending
-from_front_fits bytes small (Ok behind) c within = ended_fits (length bytes) small (body c behind bytes).answer (body_within c behind bytes within)
-from_front_fits bytes small (Err f) c within = omega arith
+from_front_fits : (words bytes : List ℕ) → length bytes ≤ 16384 → (r : Result ℕ Fault) (c : Case) → FrontWithin (length bytes) r → Fits64 (from_front words bytes r c).ending
+from_front_fits words bytes small (Ok behind) c within = ended_fits (length bytes) small (body c behind words bytes).answer (body_within c behind words bytes within)
+from_front_fits words bytes small (Err f) c within = omega arith
 
-checked_fits : (c : Case) (bytes : List ℕ) → Fits64 (checked c bytes).ending
+checked_fits : (c : Case) (words bytes : List ℕ) → Fits64 (checked c words bytes).ending
 unfolding checked
-checked_fits c bytes =
-    cond_both (leb (length bytes) 16384) _ (record { case = c; ending = Err TooLong }) (λ (x : Checked). Fits64 x.ending)
-    (λ small. from_front_fits bytes (leb-true (length bytes) 16384 small) (front c bytes).answer (front c bytes).after (front_within c bytes))
+checked_fits c words bytes =
+    cond_both (leb (length bytes) 16384) _ (record { case = c; ending = Err TooLong; scratch = words }) (λ (x : Checked). Fits64 x.ending)
+    (λ small. from_front_fits words bytes (leb-true (length bytes) 16384 small) (front c bytes).answer (front c bytes).after (front_within c bytes))
     (λ _. tt)
 
-pub listings_fit : ListingsFit 256
-listings_fit h bytes =
-    let later = listed_after_history h bytes in
-    always_room (checked (after h) bytes).case (checked (after h) bytes).ending
+pub listings_fit : ListingsFit 20480
+listings_fit h words bytes =
+    let later = listed_after_history h words bytes in
+    always_room (checked (after h) words bytes).case (checked (after h) words bytes).ending
     (subst Limits (sym later.1) (limits_kept sealed_stage later.0))
-    (checked_fits (after h) bytes)
+    (checked_fits (after h) words bytes)

@@ -1,8 +1,8 @@
--- What a file comes to: the case that its records make, and how its reading ended.
+-- What a file comes to: the case that its records make, how its reading ended, and the scratch words afterwards.
 use Rattle.std.specs.Prelude.{ℕ, cond, List, length, Ok, Err, Result, nat_le}
-use Rattle.cases.specs.Case.{Case}
+use Rattle.model.specs.Case.{Case}
 use Rattle.files.specs.declared.fault.Fault.{Fault}
-use Rattle.files.specs.Reading.{front, body}
+use Rattle.files.specs.Reading.{BodyReading, front, body}
 use Rattle.listing.specs.declared.unread.Unread.{Unread}
 use Rattle.listing.specs.declared.unread.Unread.TheVariants.{TooLong, Refused}
 use Rattle.listing.specs.Listing.{listing}
@@ -10,6 +10,7 @@ use Rattle.listing.specs.Listing.{listing}
 pub record Checked : Type 0 where
   pub case : Case
   pub ending : Result ℕ Unread
+  pub scratch : List ℕ
 
 -- how the reading of a file of n bytes ended, by what its body answered
 abbrev pub ended : ℕ → Result (Unit {0}) Fault → Result ℕ Unread
@@ -17,17 +18,19 @@ ended n (Ok done) = Ok n
 ended n (Err e) = Err (Refused e)
 
 -- what the front answered, and the case then: the body is read only behind a front that was read
-abbrev pub from_front : List ℕ → Result ℕ Fault → Case → Checked
-from_front bytes (Ok behind) c = record { case = (body c behind bytes).after; ending = ended (length bytes) (body c behind bytes).answer }
-from_front bytes (Err e) c = record { case = c; ending = Err (Refused e) }
+abbrev pub from_front : List ℕ → List ℕ → Result ℕ Fault → Case → Checked
+from_front words bytes (Ok behind) c =
+    let read : BodyReading = body c behind words bytes in
+    record { case = read.after; ending = ended (length bytes) read.answer; scratch = read.scratch }
+from_front words bytes (Err e) c = record { case = c; ending = Err (Refused e); scratch = words }
 
 -- a file has at most 16,384 bytes, and of a longer input nothing is read
-unfoldable pub checked : Case → List ℕ → Checked
-checked c bytes =
+unfoldable pub checked : Case → List ℕ → List ℕ → Checked
+checked c words bytes =
     cond (nat_le (length bytes) 16384)
-    (from_front bytes (front c bytes).answer (front c bytes).after)
-    (record { case = c; ending = Err TooLong })
+    (from_front words bytes (front c bytes).answer (front c bytes).after)
+    (record { case = c; ending = Err TooLong; scratch = words })
 
 -- the listing of a file
-abbrev pub file_listing : Case → List ℕ → List ℕ
-file_listing c bytes = listing (checked c bytes).case (checked c bytes).ending
+abbrev pub file_listing : Case → List ℕ → List ℕ → List ℕ
+file_listing c words bytes = listing (checked c words bytes).case (checked c words bytes).ending

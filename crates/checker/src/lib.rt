@@ -1,12 +1,13 @@
 // From a file's bytes to its listing: the front, the seal, the body, the listing.
 #![tactic(auto)]
 
-ghost use Rattle.std.specs.Prelude.{◌≡◌, IfOk};
-ghost use Rattle.cases.specs.Case.{empty};
+ghost use Rattle.std.specs.Prelude.{◌≡◌, IfOk, replicate};
+ghost use Rattle.model.specs.Case.{empty};
+ghost use Rattle.model.specs.Promises.{ScratchSuffices};
 ghost use Rattle.cases.specs.Model.{opened, sealed};
+ghost use Rattle.listing.specs.Written.{written_answer, written_after};
 ghost use Rattle.checker.specs.Checked.{checked, from_front, file_listing};
 ghost use Rattle.checker.specs.Promises.{ListingsFit, Promises};
-ghost use Rattle.listing.specs.Written.{written_answer, written_after};
 
 use cases::{OpenCase, SealedCase};
 use files::{Fault, read_body, read_front};
@@ -16,27 +17,38 @@ use std::alloc::{AllocError, Global};
 // The most bytes that a file has.
 pub const FILE_MOST: usize = 16_384;
 
-// Reads a file into a new case, and writes the listing into a caller's buffer, since nothing is allocated after a case
-// is made: its length is answered.
+// With so many scratch words no refutation is refused for want of them: four for each of 1,024 formulas.
+pub const SCRATCH_MOST: usize = 4096;
+
+// Reads a file into an open case, with scratch words for its refutations, and writes the listing into a caller's buffer,
+// since nothing is allocated after a case is made: its length is answered.
 #[tactic(auto, using(crate::proofs::Listed::promises, crate::proofs::Fitting::listings_fit))]
-pub fn list_file(case: OpenCase, file: &[u8], buffer: &mut [u8]) -> Result<usize, ListingRefusal>
-    ensures answer { result ≡ written_answer (file_listing (opened case) file.now) buffer.old }
-    ensures after { buffer.new ≡ written_after (file_listing (opened case) file.now) buffer.old }
+pub fn list_file(
+    case: OpenCase,
+    file: &[u8],
+    scratch: &mut [u64],
+    buffer: &mut [u8],
+) -> Result<usize, ListingRefusal>
+    ensures answer { result ≡ written_answer (file_listing (opened case) scratch.old file.now) buffer.old }
+    ensures after { buffer.new ≡ written_after (file_listing (opened case) scratch.old file.now) buffer.old }
+    ensures words { scratch.new ≡ (checked (opened case) scratch.old file.now).scratch }
     ensures promised { Promises }
     ensures fits { ListingsFit LISTING_MOST }
+    ensures suffices { ScratchSuffices SCRATCH_MOST }
 {
-    let (case, ending) = read_file(case, file);
+    let (case, ending) = read_file(case, file, scratch);
     write_listing(&case, ending, buffer)
 }
 
 // The listing of a file that is read into a new case.
 pub fn listing_of(heap: Global, file: &[u8]) -> Result<Vec<u8>, AllocError>
-    ensures { IfOk result (λ text. text.items ≡ file_listing empty file.now) }
+    ensures { IfOk result (λ text. text.items ≡ file_listing empty (replicate SCRATCH_MOST 0) file.now) }
 {
+    let mut scratch = vec![in heap; 0; SCRATCH_MOST]?;
     let mut buffer = vec![in heap; 0; LISTING_MOST]?;
     let case = OpenCase::new(heap)?;
     // The buffer has room for every listing, so that the refusal never comes.
-    let Ok(length) = list_file(case, file, &mut buffer) else {
+    let Ok(length) = list_file(case, file, &mut scratch, &mut buffer) else {
         unreachable!()
     };
     buffer.truncate(length);
@@ -44,16 +56,21 @@ pub fn listing_of(heap: Global, file: &[u8]) -> Result<Vec<u8>, AllocError>
 }
 
 // Reads a file into a case, which is sealed in any case, and answers how that ended beside it.
-fn read_file(mut case: OpenCase, file: &[u8]) -> (SealedCase, Result<usize, Unread>)
-    ensures case { sealed result.0 ≡ (checked (opened case) file.now).case }
-    ensures ending { result.1 ≡ (checked (opened case) file.now).ending }
+fn read_file(
+    mut case: OpenCase,
+    file: &[u8],
+    scratch: &mut [u64],
+) -> (SealedCase, Result<usize, Unread>)
+    ensures case { sealed result.0 ≡ (checked (opened case) scratch.old file.now).case }
+    ensures ending { result.1 ≡ (checked (opened case) scratch.old file.now).ending }
+    ensures words { scratch.new ≡ (checked (opened case) scratch.old file.now).scratch }
 {
     if file.len() > FILE_MOST {
         return (case.seal(), Err(Unread::TooLong));
     }
     let front = read_front(&mut case, file);
     let mut sealed = case.seal();
-    let ending = read_behind(front, &mut sealed, file);
+    let ending = read_behind(front, &mut sealed, file, scratch);
     (sealed, ending)
 }
 
@@ -62,11 +79,13 @@ fn read_behind(
     front: Result<usize, Fault>,
     case: &mut SealedCase,
     file: &[u8],
+    scratch: &mut [u64],
 ) -> Result<usize, Unread>
-    ensures ending { result ≡ (from_front file.now front (sealed case.old)).ending }
-    ensures after { sealed case.new ≡ (from_front file.now front (sealed case.old)).case }
+    ensures ending { result ≡ (from_front scratch.old file.now front (sealed case.old)).ending }
+    ensures after { sealed case.new ≡ (from_front scratch.old file.now front (sealed case.old)).case }
+    ensures words { scratch.new ≡ (from_front scratch.old file.now front (sealed case.old)).scratch }
 {
     let start = front?;
-    read_body(case, file, start)?;
+    read_body(case, file, start, scratch)?;
     Ok(file.len())
 }
