@@ -72,7 +72,7 @@ impl<T: Copy, const MOST: u16> Table<T, MOST> {
 
 impl<T: Copy + PartialEq, const MOST: u16> Table<T, MOST> {
     // The number of the first item that equals this one.
-    fn find(&self, item: T) -> Option<usize>
+    pub fn find(&self, item: T) -> Option<usize>
         ensures number { result ≡ place T.eq self.now item }
         ensures within { IfSome result (λ n. n < MOST) }
     {

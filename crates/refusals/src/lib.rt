@@ -16,6 +16,14 @@ pub enum Refusal {
     NotEntered,
     // assume: the assumption is new, and 16 are there
     AssumptionsFull,
+    // a line number that is not held: at a place of a line, or of a line that is read
+    LineNotHeld,
+    // line: 512 lines are held
+    LinesFull,
+    // line: the page does not admit it, or by rule 0 it is no assumption or has a place that is not empty
+    NotAdmitted,
+    // line: the page says that it is beyond its limit
+    BeyondLimit,
     // the run's stem and loop have more than 256 positions
     RunTooLong,
     // the position is past the end of the run's loop
@@ -44,6 +52,10 @@ impl Refusal {
             Refusal::FormulasFull => 3,
             Refusal::NotEntered => 4,
             Refusal::AssumptionsFull => 5,
+            Refusal::LineNotHeld => 6,
+            Refusal::LinesFull => 7,
+            Refusal::NotAdmitted => 8,
+            Refusal::BeyondLimit => 9,
             Refusal::RunTooLong => 10,
             Refusal::PastRun => 11,
             Refusal::ScratchTooShort => 12,
