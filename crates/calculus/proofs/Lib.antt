@@ -1,0 +1,5 @@
+pub mod Laws
+pub mod Parts
+pub mod Tautologies
+pub mod Exact
+pub mod Lawful

@@ -1,0 +1,28 @@
+// The standard axiom system of linear temporal logic, and rules that are derived in it: definitions and theorems.
+#![tactic(auto)]
+
+ghost use Rattle.calculus.specs.Promises.{PrimePartsListed, PublishedExact, PublishedLimit, DerivedExact};
+
+mod verdict;
+
+pub use verdict::Verdict;
+
+// The prime parts of a formula are listed, each once.
+pub fn prime_parts_listed()
+    ensures { PrimePartsListed }
+{}
+
+// The published page admits a conclusion exactly when an axiom or a rule gives it, within the limit.
+pub fn published_exact()
+    ensures { PublishedExact }
+{}
+
+// The published page says that its limit is passed exactly for a formula of too many prime parts.
+pub fn published_limit()
+    ensures { PublishedLimit }
+{}
+
+// The derived page admits by its rules exactly what they give, and says of all others what the page below says.
+pub fn derived_exact()
+    ensures { DerivedExact }
+{}
