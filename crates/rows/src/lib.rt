@@ -4,6 +4,7 @@
 ghost use Rattle.std.specs.Prelude.{◌≡◌, ◌+◌, ◌-◌, min, not, ◌&&◌, ◌||◌, ◌==◌};
 ghost use Rattle.rows.specs.Row.{bit, row_of, row_up_to, all_from, after};
 
+use std::array;
 use words::{and, earlier, end, mask, minus, or, place};
 
 mod lasso;
@@ -46,6 +47,20 @@ pub fn implies(a: Row, b: Row, lasso: Lasso) -> Row
     ensures { result ≡ row_up_to (lasso.stem + lasso.loop_length) (λ i. not (bit a i) || bit b i) }
 {
     minus(mask(lasso.positions()), minus(a, b))
+}
+
+// Where `a` is false or `b` is true, at all positions.
+pub fn implies_throughout(a: Row, b: Row) -> Row
+    ensures { result ≡ row_of (λ i. not (bit a i) || bit b i) }
+{
+    array::from_fn(|index| b[index] | !a[index])
+}
+
+// Whether a row is true at all positions.
+pub fn is_full(row: Row) -> bool
+    ensures { result ≡ all_from (bit row) 0 256 }
+{
+    row.iter().all(|word| *word == u64::MAX)
 }
 
 // Where `a` is true at the next position, which at the loop's end is its first.
