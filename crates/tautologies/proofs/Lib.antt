@@ -1,0 +1,5 @@
+mod Marks
+mod Plans
+mod Choices
+mod Blocks
+mod Verdicts

@@ -1,0 +1,4 @@
+pub mod Verdicts
+pub mod Gathering
+pub mod Planning
+pub mod Choosing
