@@ -1,0 +1,4 @@
+pub mod Questions
+pub mod Matching
+pub mod Rules
+pub mod Shapes

@@ -1,0 +1,20 @@
+// The formulas that stand for the letters of a rule.
+ghost use Rattle.std.specs.Prelude.{◌≡◌, nat_eq};
+ghost use Rattle.rules.specs.Matching.{with_letter};
+
+// For A, B and C, by number, as far as they are known.
+pub(crate) type Letters = [Option<u16>; 3];
+
+// The letters with a formula for one of them. None if another formula stands for it.
+pub(crate) fn with_letter(letters: Letters, letter: u8, number: u16) -> Option<Letters>
+    ensures { result ≡ with_letter nat_eq letters letter number }
+{
+    let index = usize::from(letter);
+    let known = *letters.get(index)?;
+    if known.is_some_and(|other| other != number) {
+        return None;
+    }
+    let mut more = letters;
+    more[index] = Some(number);
+    Some(more)
+}
