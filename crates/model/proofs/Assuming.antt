@@ -37,6 +37,13 @@ module _ (c : Case) (f : ℕ) where
       same_formulas (stays r) = refl
       same_formulas (one_more f_in none room) = refl
 
+  pub assume_enters_no_line : {o : Outcome ℕ} → Assuming c f o → o.after.lines ≡ c.lines
+  assume_enters_no_line a = same_lines (changed a)
+    where
+      same_lines : {o : Outcome ℕ} → Changed o → o.after.lines ≡ c.lines
+      same_lines (stays r) = refl
+      same_lines (one_more f_in none room) = refl
+
   pub assume_refutes_nothing : {o : Outcome ℕ} → Assuming c f o → o.after.refutations ≡ c.refutations
   assume_refutes_nothing a = same_refutations (changed a)
     where
@@ -81,7 +88,8 @@ module _ (c : Case) (f : ℕ) where
         assumptions_distinct = distinct_push c.assumptions f l.assumptions_distinct none;
         assumptions_few = omega (arith, length_push c.assumptions f);
         assumptions_entered = every_push (λ g. g < length c.formulas) c.assumptions f l.assumptions_entered f_in;
-        no_lines = l.no_lines;
+        lines_few = l.lines_few;
+        lines_entered = l.lines_entered;
         refutations_few = l.refutations_few;
         refutations_entered = l.refutations_entered;
       }

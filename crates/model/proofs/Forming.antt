@@ -40,6 +40,13 @@ module _ (c : Case) (kind left right : ℕ) where
       same_assumptions (stays a) = refl
       same_assumptions (one_more A d none room) = refl
 
+  pub form_enters_no_line : {o : Outcome ℕ} → Forming c kind left right o → o.after.lines ≡ c.lines
+  form_enters_no_line f = same_lines (changed f)
+    where
+      same_lines : {o : Outcome ℕ} → Changed o → o.after.lines ≡ c.lines
+      same_lines (stays a) = refl
+      same_lines (one_more A d none room) = refl
+
   pub form_refutes_nothing : {o : Outcome ℕ} → Forming c kind left right o → o.after.refutations ≡ c.refutations
   form_refutes_nothing f = same_refutations (changed f)
     where
@@ -94,7 +101,8 @@ module _ (c : Case) (kind left right : ℕ) where
         assumptions_distinct = l.assumptions_distinct;
         assumptions_few = l.assumptions_few;
         assumptions_entered = λ k g is. let h : g < length c.formulas = l.assumptions_entered k g is in omega (arith, length_push c.formulas A);
-        no_lines = l.no_lines;
+        lines_few = l.lines_few;
+        lines_entered = λ n k is. let h : k.formula < length c.formulas = l.lines_entered n k is in omega (arith, length_push c.formulas A);
         refutations_few = l.refutations_few;
         refutations_entered = λ n x is. let h : x.formula < length c.formulas = l.refutations_entered n x is in omega (arith, length_push c.formulas A);
       }

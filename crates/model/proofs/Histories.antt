@@ -1,23 +1,25 @@
 -- What every history keeps of formulas and assumptions.
-use Rattle.std.proofs.Common.{◌≡◌, ℕ, List, Some, sym, refl, subst, inl, inr, arith}
+use Rattle.std.proofs.Common.{◌≡◌, ℕ, List, Some, sym, subst, inl, inr, arith}
 use Rattle.std.specs.List.{slice_get}
 use Rattle.logic.specs.Formula.{Formula}
 use Rattle.formulas.proofs.Members.{some_not_none}
 use Rattle.model.specs.Case.{Case}
 use Rattle.model.specs.Describes.{Number}
-use Rattle.model.specs.History.{Stage, open_stage, sealed_stage, Call, form, assume, truth, refute, History, new, then, then_seal, after_call, after, Formed, formed_last, formed_earlier, formed_before_seal, Assumed, assumed_last, assumed_earlier, assumed_before_seal}
+use Rattle.model.specs.History.{Stage, open_stage, sealed_stage, Call, form, assume, truth, line, refute, History, new, then, then_seal, after_call, after, Formed, formed_last, formed_earlier, formed_before_seal, Assumed, assumed_last, assumed_earlier, assumed_before_seal}
 use Rattle.model.specs.Limits.{Limits}
 use Rattle.model.specs.Promises.{RefusalsChangeNothing, FormulasFormed, AssumptionsAssumed, EntriesTell, LimitsKept}
 use Rattle.model.proofs.Exact.{form_exact, assume_exact}
 use Rattle.model.proofs.Entries.{entry_describes, describes_entry}
 use Rattle.model.proofs.Forming.{form_refused, form_assumes_nothing, form_brings, form_keeps, form_gives, form_limits}
 use Rattle.model.proofs.Assuming.{assume_refused, assume_forms_nothing, assume_brings, assume_keeps, assume_gives, assume_limits}
+use Rattle.model.proofs.LineChanges.{line_refused, line_forms_nothing, line_assumes_nothing, line_limits}
 use Rattle.model.proofs.RefuteChanges.{truth_changes_nothing, refute_refused, refute_forms_nothing, refute_assumes_nothing, refute_limits}
 
 pub refusals_change_nothing : RefusalsChangeNothing
 refusals_change_nothing s c (form kind left right) e is = form_refused c kind left right (form_exact c kind left right) e is
 refusals_change_nothing s c (assume f) e is = assume_refused c f (assume_exact c f) e is
 refusals_change_nothing s c (truth r f i n) e is = truth_changes_nothing c r f i n
+refusals_change_nothing s c (line page l) e is = line_refused c page l e is
 refusals_change_nothing s c (refute r f i n) e is = refute_refused c r f i n e is
 
 pub formulas_from : (s : Stage) (h : History s) (n : ℕ) (A : Formula) → Number (after h).formulas n A → Formed s h n A
@@ -30,6 +32,8 @@ formulas_from s (then h (assume f)) n A is =
     formed_earlier (formulas_from s h n A (subst (λ (fs : List Formula). Number fs n A) (assume_forms_nothing (after h) f (assume_exact (after h) f)) is))
 formulas_from s (then h (truth r f i m)) n A is =
     formed_earlier (formulas_from s h n A (subst (λ (d : Case). Number d.formulas n A) (truth_changes_nothing (after h) r f i m) is))
+formulas_from s (then h (line page l)) n A is =
+    formed_earlier (formulas_from s h n A (subst (λ (fs : List Formula). Number fs n A) (line_forms_nothing (after h) page l) is))
 formulas_from s (then h (refute r f i m)) n A is =
     formed_earlier (formulas_from s h n A (subst (λ (fs : List Formula). Number fs n A) (refute_forms_nothing (after h) r f i m) is))
 formulas_from s (then_seal h) n A is = formed_before_seal (formulas_from open_stage h n A is)
@@ -38,6 +42,7 @@ pub call_keeps_formulas : (s : Stage) (c : Case) (x : Call s) (n : ℕ) (A : For
 call_keeps_formulas s c (form kind left right) n A is = form_keeps c kind left right (form_exact c kind left right) n A is
 call_keeps_formulas s c (assume f) n A is = subst (λ (fs : List Formula). Number fs n A) (sym (assume_forms_nothing c f (assume_exact c f))) is
 call_keeps_formulas s c (truth r f i m) n A is = subst (λ (d : Case). Number d.formulas n A) (sym (truth_changes_nothing c r f i m)) is
+call_keeps_formulas s c (line page l) n A is = subst (λ (fs : List Formula). Number fs n A) (sym (line_forms_nothing c page l)) is
 call_keeps_formulas s c (refute r f i m) n A is = subst (λ (fs : List Formula). Number fs n A) (sym (refute_forms_nothing c r f i m)) is
 
 pub formed_there : (s : Stage) (h : History s) (n : ℕ) (A : Formula) → Formed s h n A → Number (after h).formulas n A
@@ -58,6 +63,8 @@ assumptions_from s (then h (assume g)) k f is = elim (assume_brings (after h) g 
 ]
 assumptions_from s (then h (truth r g i m)) k f is =
     assumed_earlier (assumptions_from s h k f (subst (λ (d : Case). slice_get d.assumptions k ≡ Some f) (truth_changes_nothing (after h) r g i m) is))
+assumptions_from s (then h (line page l)) k f is =
+    assumed_earlier (assumptions_from s h k f (subst (λ (ks : List ℕ). slice_get ks k ≡ Some f) (line_assumes_nothing (after h) page l) is))
 assumptions_from s (then h (refute r g i m)) k f is =
     assumed_earlier (assumptions_from s h k f (subst (λ (ks : List ℕ). slice_get ks k ≡ Some f) (refute_assumes_nothing (after h) r g i m) is))
 assumptions_from s (then_seal h) k f is = assumed_before_seal (assumptions_from open_stage h k f is)
@@ -66,6 +73,7 @@ call_keeps_assumptions : (s : Stage) (c : Case) (x : Call s) (k f : ℕ) → sli
 call_keeps_assumptions s c (form kind left right) k f is = subst (λ (ks : List ℕ). slice_get ks k ≡ Some f) (sym (form_assumes_nothing c kind left right (form_exact c kind left right))) is
 call_keeps_assumptions s c (assume g) k f is = assume_keeps c g (assume_exact c g) k f is
 call_keeps_assumptions s c (truth r g i m) k f is = subst (λ (d : Case). slice_get d.assumptions k ≡ Some f) (sym (truth_changes_nothing c r g i m)) is
+call_keeps_assumptions s c (line page l) k f is = subst (λ (ks : List ℕ). slice_get ks k ≡ Some f) (sym (line_assumes_nothing c page l)) is
 call_keeps_assumptions s c (refute r g i m) k f is = subst (λ (ks : List ℕ). slice_get ks k ≡ Some f) (sym (refute_assumes_nothing c r g i m)) is
 
 pub assumed_there : (s : Stage) (h : History s) (k f : ℕ) → Assumed s h k f → slice_get (after h).assumptions k ≡ Some f
@@ -84,13 +92,15 @@ limits_kept s new = record {
   assumptions_distinct = λ i j i_lt j_in. absurd (omega arith);
   assumptions_few = omega arith;
   assumptions_entered = λ k f is. absurd (some_not_none (sym is));
-  no_lines = refl;
+  lines_few = omega arith;
+  lines_entered = λ n l is. absurd (some_not_none (sym is));
   refutations_few = omega arith;
   refutations_entered = λ n x is. absurd (some_not_none (sym is));
 }
 limits_kept s (then h (form kind left right)) = form_limits (after h) kind left right (form_exact (after h) kind left right) (limits_kept s h)
 limits_kept s (then h (assume f)) = assume_limits (after h) f (assume_exact (after h) f) (limits_kept open_stage h)
 limits_kept s (then h (truth r f i n)) = subst Limits (sym (truth_changes_nothing (after h) r f i n)) (limits_kept s h)
+limits_kept s (then h (line page l)) = line_limits (after h) page l (limits_kept sealed_stage h)
 limits_kept s (then h (refute r f i n)) = refute_limits (after h) r f i n (limits_kept sealed_stage h)
 limits_kept s (then_seal h) = limits_kept open_stage h
 

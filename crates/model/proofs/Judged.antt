@@ -28,7 +28,7 @@ use Rattle.model.specs.Promises.{TruthExact, RefuteExact, RowsTell}
 use Rattle.model.proofs.Describing.{numbered_is}
 
 -- an entered formula has its number
-entered_number : (fs : List Formula) (f : ℕ) → f < length fs → Number fs f (numbered fs f)
+pub entered_number : (fs : List Formula) (f : ℕ) → f < length fs → Number fs f (numbered fs f)
 entered_number fs f f_in = slice_get-get_or fs f falsum f_in
 
 module _ (c : Case) (r : Run) (f i : ℕ) where

@@ -5,18 +5,21 @@ use Rattle.std.proofs.lemmas.Bool.{ltb-true, ltb-false}
 use Rattle.refusals.specs.declared.Refusal.{Refusal}
 use Rattle.logic.specs.Formula.{Formula}
 use Rattle.logic.specs.Run.{Run}
+use Rattle.calculus.specs.Pages.{Page}
 use Rattle.formulas.proofs.Added.{form_longer}
 use Rattle.truths.specs.Along.{with_rows}
 use Rattle.truths.proofs.Along.{rows_over}
+use Rattle.model.specs.declared.line.Line.{Line}
 use Rattle.model.specs.Case.{Case}
 use Rattle.model.specs.Calls as calls
 use Rattle.model.specs.Judging.{check, words_once_checked, words_with_room, refute_scratch}
 use Rattle.model.specs.Outcomes.{Judgeable, Unjudgeable, formula_unknown, run_too_long, past_run, scratch_too_short}
-use Rattle.model.specs.History.{Stage, sealed_stage, Call, form, assume, truth, refute, after_call, Refused}
+use Rattle.model.specs.History.{Stage, sealed_stage, Call, form, assume, truth, line, refute, after_call, Refused}
 use Rattle.model.specs.LastRows.{WritesRows, truth_writes, refute_writes, LastRows, no_call, refused_writing, refused_unwritten, answered_before, answered_writing, answered_unwritten, with_last}
 use Rattle.model.proofs.Exact.{assume_exact}
 use Rattle.model.proofs.Assuming.{assume_forms_nothing}
 use Rattle.model.proofs.Judged.{Checked, checked}
+use Rattle.model.proofs.LineChanges.{line_forms_nothing}
 use Rattle.model.proofs.RefuteChanges.{truth_changes_nothing, refute_forms_nothing}
 
 -- ---- what one call leaves
@@ -31,6 +34,7 @@ abbrev Writable : {s : Stage} → Case → Call s → Type 0
 Writable c (form kind left right) = ⊥
 Writable c (assume f) = ⊥
 Writable c (truth r f i n) = Judgeable c r f i n
+Writable c (line page l) = ⊥
 Writable c (refute r f i n) = Judgeable c r f i n × (length c.refutations < 64)
 
 writable : {s : Stage} {c : Case} {x : Call s} {r : Run} → WritesRows c s x r → Writable c x
@@ -39,6 +43,9 @@ writable (refute_writes judgeable room) = (judgeable, room)
 
 pub form_leaves : (s : Stage) (c : Case) (kind left right : ℕ) (words : List ℕ) → Leaves s c (form kind left right) words words
 form_leaves s c kind left right words = leaves_all (λ r w. writable w)
+
+pub line_leaves : (c : Case) (page : Page) (l : Line) (words : List ℕ) → Leaves sealed_stage c (line page l) words words
+line_leaves c page l words = leaves_all (λ r w. writable w)
 
 module _ (c : Case) (r : Run) (f i : ℕ) where
   not_both : {n : ℕ} {e : Refusal} → Judgeable c r f i n → Unjudgeable c r f i n e → ⊥
@@ -71,6 +78,7 @@ unfolding calls.form
 formulas_stay c (form kind left right) = form_longer c.formulas kind left right
 formulas_stay c (assume f) = omega (arith, ap length (assume_forms_nothing c f (assume_exact c f)))
 formulas_stay c (truth r f i n) = omega (arith, ap (λ (d : Case). length d.formulas) (truth_changes_nothing c r f i n))
+formulas_stay c (line page l) = omega (arith, ap length (line_forms_nothing c page l))
 formulas_stay c (refute r f i n) = omega (arith, ap length (refute_forms_nothing c r f i n))
 
 -- the last rows are those of all formulas that there were before, at least

@@ -85,6 +85,13 @@ module _ (c : Case) (r : Run) (f i : ℕ) where
         same_assumptions (stays x) = refl
         same_assumptions (one_more judgeable room breaks) = refl
 
+    pub refute_enters_no_line : (refute c r f i n).after.lines ≡ c.lines
+    refute_enters_no_line = same_lines (changed n)
+      where
+        same_lines : {o : Outcome ℕ} → Changed n o → o.after.lines ≡ c.lines
+        same_lines (stays x) = refl
+        same_lines (one_more judgeable room breaks) = refl
+
     -- a refutation that is there afterwards was there, or is the one that refute answered for
     pub refute_brings : (m : ℕ) (x : Refutation) → slice_get (refute c r f i n).after.refutations m ≡ Some x
         → (slice_get c.refutations m ≡ Some x) ⊎ (((refute c r f i n).answer ≡ Ok m) × (record { formula = f; position = i } ≡ x))
@@ -141,7 +148,8 @@ module _ (c : Case) (r : Run) (f i : ℕ) where
           assumptions_distinct = l.assumptions_distinct;
           assumptions_few = l.assumptions_few;
           assumptions_entered = l.assumptions_entered;
-          no_lines = l.no_lines;
+          lines_few = l.lines_few;
+          lines_entered = l.lines_entered;
           refutations_few = omega (arith, length_push c.refutations (record { formula = f; position = i }));
           refutations_entered = every_push (λ x. x.formula < length c.formulas) c.refutations (record { formula = f; position = i }) l.refutations_entered judgeable.entered;
         }

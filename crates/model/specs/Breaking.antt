@@ -1,9 +1,10 @@
--- Runs that keep the assumptions of a case and break a formula.
+-- Runs that keep the assumptions of a case, what follows from these, and what breaks a formula.
 use Rattle.std.specs.Prelude.{◌≡◌, ℕ, List, Some}
 use Rattle.std.specs.List.{slice_get}
 use Rattle.logic.specs.Formula.{Formula}
 use Rattle.logic.specs.Run.{Run}
 use Rattle.logic.specs.Truth.{Holds, Throughout}
+use Rattle.model.specs.declared.line.Line.{Line}
 use Rattle.model.specs.declared.refutation.Refutation.{Refutation}
 use Rattle.model.specs.Describes.{Number}
 
@@ -18,7 +19,17 @@ module _ (fs : List Formula) (ks : List ℕ) where
   abbrev pub Keeps : Run → Type 0
   Keeps r = (k : ℕ) (A : Formula) → Assumes k A → Throughout r A
 
-  -- and the formula with the number f does not hold at position i
+  -- the formula with the number f holds throughout every run that keeps the assumptions
+  pub record Follows (f : ℕ) : Type 0 where
+    pub formula : Formula
+    pub numbered : Number fs f formula
+    pub holds : (r : Run) → Keeps r → Throughout r formula
+
+  -- the formulas of all these lines follow from the assumptions
+  abbrev pub LinesFollow : List Line → Type 0
+  LinesFollow ls = (n : ℕ) (l : Line) → slice_get ls n ≡ Some l → ∥ Follows l.formula ∥₁
+
+  -- a run keeps the assumptions, and the formula with the number f does not hold at its position i
   pub record Breaks (r : Run) (f i : ℕ) : Type 0 where
     pub keeps : Keeps r
     pub formula : Formula

@@ -1,14 +1,8 @@
 -- A case as a model: its formulas as trees, and what refers to them by their numbers.
-use Rattle.std.specs.Prelude.{ℕ, List, [], Option}
+use Rattle.std.specs.Prelude.{ℕ, List, []}
 use Rattle.logic.specs.Formula.{Formula}
+use Rattle.model.specs.declared.line.Line.{Line}
 use Rattle.model.specs.declared.refutation.Refutation.{Refutation}
-
--- a derived line: a rule, a formula's number, and two places, each a line's number or empty
-pub record Line : Type 0 where
-  pub rule : ℕ
-  pub formula : ℕ
-  pub first : Option ℕ
-  pub second : Option ℕ
 
 -- an assumption is a formula's number
 pub record Case : Type 0 where

@@ -1,11 +1,14 @@
 pub mod Case
 pub mod Calls
+pub mod Lines
 pub mod Judging
 pub mod Describes
 pub mod Breaking
 pub mod Outcomes
 pub mod Reads
 pub mod History
+pub mod Making
 pub mod LastRows
 pub mod Limits
+pub mod Entering
 pub mod Promises

@@ -1,8 +1,9 @@
 -- What a case keeps to after every history.
-use Rattle.std.specs.Prelude.{◌≡◌, ℕ, ◌<◌, ◌≤◌, List, [], length, Some}
+use Rattle.std.specs.Prelude.{◌≡◌, ℕ, ◌<◌, ◌≤◌, List, length, Some}
 use Rattle.std.specs.List.{slice_get}
 use Rattle.logic.specs.Formula.{Formula}
 use Rattle.formulas.specs.Adding.{Distinct}
+use Rattle.model.specs.declared.line.Line.{Line}
 use Rattle.model.specs.declared.refutation.Refutation.{Refutation}
 use Rattle.model.specs.Case.{Case}
 use Rattle.model.specs.Describes.{Number, Describes}
@@ -15,6 +16,10 @@ Closed fs = (n : ℕ) (A : Formula) → Number fs n A → (kind : ℕ) × (left 
 abbrev pub AssumptionsEntered : Case → Type 0
 AssumptionsEntered c = (k f : ℕ) → slice_get c.assumptions k ≡ Some f → f < length c.formulas
 
+-- and so is the formula of each line
+abbrev pub LinesEntered : Case → Type 0
+LinesEntered c = (n : ℕ) (l : Line) → slice_get c.lines n ≡ Some l → l.formula < length c.formulas
+
 pub record Limits (c : Case) : Type 0 where
   pub formulas_distinct : Distinct c.formulas
   pub formulas_few : length c.formulas ≤ 1024
@@ -22,6 +27,7 @@ pub record Limits (c : Case) : Type 0 where
   pub assumptions_distinct : Distinct c.assumptions
   pub assumptions_few : length c.assumptions ≤ 16
   pub assumptions_entered : AssumptionsEntered c
-  pub no_lines : c.lines ≡ []
+  pub lines_few : length c.lines ≤ 512
+  pub lines_entered : LinesEntered c
   pub refutations_few : length c.refutations ≤ 64
   pub refutations_entered : (n : ℕ) (x : Refutation) → slice_get c.refutations n ≡ Some x → x.formula < length c.formulas

@@ -1,14 +1,18 @@
 -- What the calls do, as relations: one case of each for every way that a call can end.
-use Rattle.std.specs.Prelude.{◌≡◌, ℕ, ◌+◌, ◌*◌, ◌<◌, ◌≤◌, Bool, true, false, List, [], ◌∷◌, ◌++◌, length, Some, Ok, Err, ◌≢◌}
+use Rattle.std.specs.Prelude.{◌≡◌, ℕ, ◌+◌, ◌*◌, ◌<◌, ◌≤◌, Bool, true, false, ◌⊎◌, List, [], ◌∷◌, ◌++◌, length, Some, None, Ok, Err, Option, ◌≢◌}
 use Rattle.std.specs.List.{slice_get}
 use Rattle.refusals.specs.declared.Refusal.{Refusal}
-use Rattle.refusals.specs.declared.Refusal.TheVariants.{UnknownKind, BadField, FormulasFull, NotEntered, AssumptionsFull, RunTooLong, PastRun, ScratchTooShort, AssumptionFalse, FormulaTrue, RefutationsFull}
+use Rattle.refusals.specs.declared.Refusal.TheVariants.{UnknownKind, BadField, FormulasFull, NotEntered, AssumptionsFull, LineNotHeld, LinesFull, NotAdmitted as NotAdmittedRefusal, BeyondLimit as BeyondLimitRefusal, RunTooLong, PastRun, ScratchTooShort, AssumptionFalse, FormulaTrue, RefutationsFull}
 use Rattle.logic.specs.Formula.{Formula}
 use Rattle.logic.specs.Run.{Run}
 use Rattle.logic.specs.Truth.{Holds, Throughout}
+use Rattle.calculus.specs.declared.verdict.Verdict.TheVariants.{Admitted, NotAdmitted, BeyondLimit}
+use Rattle.calculus.specs.Pages.{Page}
 use Rattle.truths.specs.Along.{with_rows}
+use Rattle.model.specs.declared.line.Line.{Line}
 use Rattle.model.specs.Case.{Case}
 use Rattle.model.specs.Calls.{Outcome, says, with_formulas, with_assumptions}
+use Rattle.model.specs.Lines.{with_lines}
 use Rattle.model.specs.Judging.{with_refutations}
 use Rattle.model.specs.Describes.{Number, Describes}
 use Rattle.model.specs.Breaking.{Assumes, Keeps, Breaks}
@@ -33,6 +37,45 @@ pub data Assuming (c : Case) (f : ℕ) : Outcome ℕ → Type 0 where
   assumptions_full : f < length c.formulas → Absent c.assumptions f → 16 ≤ length c.assumptions → Assuming c f (says c (Err AssumptionsFull))
   newly_assumed : f < length c.formulas → Absent c.assumptions f → length c.assumptions < 16
       → Assuming c f (record { answer = Ok (length c.assumptions); after = with_assumptions c (c.assumptions ++ f ∷ []) })
+
+-- a place is empty and there is no premise, or it is the number of a held line and the premise is its formula
+pub data Premise (c : Case) : Option ℕ → Option Formula → Type 0 where
+  no_premise : Premise c None None
+  on_line : (k : ℕ) (l : Line) (A : Formula) → slice_get c.lines k ≡ Some l → Number c.formulas l.formula A → Premise c (Some k) (Some A)
+
+-- a line can be asked about: its formula is entered, and its places give premises
+pub record Stated (c : Case) (l : Line) : Type 0 where
+  pub formula : Formula
+  pub numbered : Number c.formulas l.formula formula
+  pub first : Option Formula
+  pub first_is : Premise c l.first first
+  pub second : Option Formula
+  pub second_is : Premise c l.second second
+
+-- a line states one of the assumptions, by rule 0 and with empty places
+pub record StatesAssumption (c : Case) (l : Line) : Type 0 where
+  pub rule : l.rule ≡ 0
+  pub first : l.first ≡ None
+  pub second : l.second ≡ None
+  pub place : ℕ
+  pub assumed : slice_get c.assumptions place ≡ Some l.formula
+
+-- the line is held, behind those that are
+abbrev pub line_held : Case → Line → Outcome ℕ
+line_held c l = record { answer = Ok (length c.lines); after = with_lines c (c.lines ++ l ∷ []) }
+
+-- line: the formula is not entered, or a place is a line's number that is not held; or the line is stated, and 512 are held; or there is room, and it states an assumption by rule 0 or does not, or by another rule the page's verdict on it is one of three
+pub data Lining (c : Case) (page : Page) (l : Line) : Outcome ℕ → Type 0 where
+  formula_not_entered : length c.formulas ≤ l.formula → Lining c page l (says c (Err NotEntered))
+  place_not_held : l.formula < length c.formulas → (k : ℕ) → (l.first ≡ Some k) ⊎ (l.second ≡ Some k) → length c.lines ≤ k → Lining c page l (says c (Err LineNotHeld))
+  lines_full : Stated c l → 512 ≤ length c.lines → Lining c page l (says c (Err LinesFull))
+  assumption_line : Stated c l → length c.lines < 512 → StatesAssumption c l → Lining c page l (line_held c l)
+  no_assumption : Stated c l → length c.lines < 512 → l.rule ≡ 0 → (StatesAssumption c l → ⊥) → Lining c page l (says c (Err NotAdmittedRefusal))
+  page_admits : (s : Stated c l) → length c.lines < 512 → l.rule ≢ 0 → page.verdict l.rule s.formula s.first s.second ≡ Admitted → Lining c page l (line_held c l)
+  page_does_not_admit : (s : Stated c l) → length c.lines < 512 → l.rule ≢ 0 → page.verdict l.rule s.formula s.first s.second ≡ NotAdmitted
+      → Lining c page l (says c (Err NotAdmittedRefusal))
+  page_beyond_limit : (s : Stated c l) → length c.lines < 512 → l.rule ≢ 0 → page.verdict l.rule s.formula s.first s.second ≡ BeyondLimit
+      → Lining c page l (says c (Err BeyondLimitRefusal))
 
 -- a formula can be judged: it is entered, its run has at most 256 positions and this one among them, and there are words for all rows
 pub record Judgeable (c : Case) (r : Run) (f i : ℕ) (words : ℕ) : Type 0 where

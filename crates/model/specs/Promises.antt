@@ -1,24 +1,33 @@
 -- What holds of every case, and after every history of calls.
 use Rattle.std.specs.Prelude.{◌≡◌, ℕ, ◌+◌, ◌*◌, ◌<◌, ◌≤◌, true, ◌↔◌, List, length, drop, Some, Ok, Err, Result, ◌≢◌}
+use Rattle.std.specs.List.{slice_get}
 use Rattle.refusals.specs.declared.Refusal.{Refusal}
-use Rattle.refusals.specs.declared.Refusal.TheVariants.{NotEntered, ScratchTooShort, RefutationNotHeld}
+use Rattle.refusals.specs.declared.Refusal.TheVariants.{NotEntered, LineNotHeld, ScratchTooShort, RefutationNotHeld}
 use Rattle.logic.specs.Formula.{Formula}
 use Rattle.logic.specs.Run.{Run}
-use Rattle.logic.specs.Truth.{Holds}
+use Rattle.logic.specs.Truth.{Holds, Throughout}
+use Rattle.calculus.specs.PrimeParts.{prime_parts}
+use Rattle.calculus.specs.Rules.{Gives}
+use Rattle.calculus.specs.Pages.{Page}
+use Rattle.calculus.specs.Published.{published}
+use Rattle.calculus.specs.Derivations.{Step, Derivation}
 use Rattle.formulas.specs.declared.entry.Entry.{Entry}
 use Rattle.formulas.specs.Entries.{kind_of, left_of, right_of}
 use Rattle.truths.specs.Along.{with_rows, row_says}
+use Rattle.model.specs.declared.line.Line.{Line}
 use Rattle.model.specs.declared.standing.Standing.{Standing}
-use Rattle.model.specs.declared.standing.Standing.TheVariants.{Refuted, Open}
+use Rattle.model.specs.declared.standing.Standing.TheVariants.{Derived, Refuted, Open}
 use Rattle.model.specs.Case.{Case}
 use Rattle.model.specs.Calls as calls
+use Rattle.model.specs.Lines as lines
 use Rattle.model.specs.Judging as judging
 use Rattle.model.specs.Describes.{Number, Describes}
 use Rattle.model.specs.Breaking.{Breaks}
-use Rattle.model.specs.Outcomes.{Forming, Assuming, Judgeable, Telling, Refuting}
-use Rattle.model.specs.Reads.{counts_of, entry_in, assumption_in, refutation_in, standing_in}
-use Rattle.model.specs.History.{Stage, Call, History, after_call, Refused, after, Formed, Assumed, Held}
-use Rattle.model.specs.Limits.{AssumptionsEntered, Limits}
+use Rattle.model.specs.Outcomes.{Forming, Assuming, Stated, StatesAssumption, Lining, Judgeable, Telling, Refuting}
+use Rattle.model.specs.Reads.{counts_of, entry_in, assumption_in, line_in, refutation_in, standing_in}
+use Rattle.model.specs.History.{Stage, sealed_stage, Call, History, after_call, Refused, after, Formed, Assumed, HeldLine, HeldRefutation}
+use Rattle.model.specs.Limits.{AssumptionsEntered, LinesEntered, Limits}
+use Rattle.model.specs.Entering.{Publishes, Ready, entered_as, Entering}
 
 -- form and assume do what the relations say, on every case
 abbrev pub FormExact : Type 0
@@ -26,6 +35,20 @@ FormExact = (c : Case) (kind left right : ℕ) → Forming c kind left right (ca
 
 abbrev pub AssumeExact : Type 0
 AssumeExact = (c : Case) (f : ℕ) → Assuming c f (calls.assume c f)
+
+-- line does what the relation says, on every case whose lines have entered formulas, as after all histories
+abbrev pub LineExact : Type 0
+LineExact = (c : Case) → LinesEntered c → (page : Page) (l : Line) → Lining c page l (lines.line c page l)
+
+-- the calculus gives a line: it states an assumption by rule 0, or its rule gives its formula from those on the lines at its places, a tautology if it has at most twelve prime parts
+pub data CalculusGives (c : Case) (l : Line) : Type 0 where
+  as_assumption : Stated c l → StatesAssumption c l → CalculusGives c l
+  by_its_rule : (s : Stated c l) → Gives l.rule s.formula s.first s.second → (l.rule ≡ 1 → length (prime_parts s.formula) ≤ 12) → CalculusGives c l
+
+-- under a page that says of the line's rule what the published page says, a line is held exactly when there is room and the calculus gives it; its number is the next one
+abbrev pub LineHeldExactly : Type 0
+LineHeldExactly = (c : Case) → LinesEntered c → (page : Page) (l : Line) (n : ℕ) → (l.rule ≢ 0 → page.verdict l.rule ≡ published l.rule)
+    → ((lines.line c page l).answer ≡ Ok n) ↔ ((n ≡ length c.lines) × (length c.lines < 512) × CalculusGives c l)
 
 -- truth does what the relation says on every case, and refute on every case whose assumptions are entered, as after all histories
 abbrev pub TruthExact : Type 0
@@ -37,8 +60,8 @@ RefuteExact = (c : Case) → AssumptionsEntered c → (r : Run) (f i : ℕ) (wor
     → Refuting c r f i words (judging.refute c r f i (length words)) (judging.refute_scratch c r f i words)
 
 -- a refutation is held exactly when it can be judged, there is room, and the run keeps the assumptions and breaks the formula; its number is the next one
-abbrev pub HeldExactly : Type 0
-HeldExactly = (c : Case) → AssumptionsEntered c → (r : Run) (f i n m : ℕ)
+abbrev pub RefutationHeldExactly : Type 0
+RefutationHeldExactly = (c : Case) → AssumptionsEntered c → (r : Run) (f i n m : ℕ)
     → ((judging.refute c r f i n).answer ≡ Ok m)
     ↔ ((m ≡ length c.refutations) × (length c.refutations < 64) × Judgeable c r f i n × Breaks c.formulas c.assumptions r f i)
 
@@ -63,35 +86,65 @@ FormulasFormed = (s : Stage) (h : History s) (n : ℕ) (A : Formula) → Number 
 abbrev pub AssumptionsAssumed : Type 0
 AssumptionsAssumed = (s : Stage) (h : History s) (k f : ℕ) → (assumption_in (after h) k ≡ Some f) ↔ Assumed s h k f
 
+-- after every history, the lines are those that line answered a number for, by these numbers, and reading any other is refused
+abbrev pub LinesHeld : Type 0
+LinesHeld = (s : Stage) (h : History s) (n : ℕ)
+    → ((l : Line) → (line_in (after h) n ≡ Ok l) ↔ HeldLine s h n l)
+    × ((line_in (after h) n ≡ Err LineNotHeld) ↔ ((l : Line) → HeldLine s h n l → ⊥))
+
+-- after a history, a run keeps the assumptions: each formula that assume answered a place for holds at every position
+abbrev pub KeepsAssumptions : (s : Stage) → History s → Run → Type 0
+KeepsAssumptions s h r = (k f : ℕ) (A : Formula) → Assumed s h k f → Formed s h f A → Throughout r A
+
+-- after every history, each held line's formula holds at every position of every looped run that keeps the assumptions
+abbrev pub HeldLinesTrue : Type 0
+HeldLinesTrue = (s : Stage) (h : History s) (n : ℕ) (l : Line) (A : Formula) → HeldLine s h n l → Formed s h l.formula A
+    → (r : Run) → KeepsAssumptions s h r → Throughout r A
+
+-- after every history, no formula stands both on a held line and on a held refutation
+abbrev pub NeverBoth : Type 0
+NeverBoth = (s : Stage) (h : History s) (n m f i : ℕ) (l : Line) (r : Run) (A : Formula)
+    → HeldLine s h n l → Formed s h l.formula A → HeldRefutation s h m f i r → Formed s h f A → ⊥
+
+-- entered in order under a page that publishes, with other calls in between, a derivation that a case is ready for is held whole: its next line's formula has a number, and by whichever number it is entered, line n answers n
+abbrev pub DerivationsHeld : Type 0
+DerivationsHeld = (D : Derivation) (h : History sealed_stage) → Ready D h → (n : ℕ) (g : History sealed_stage) → Entering D h n g
+    → (s : Step) → slice_get D.steps n ≡ Some s
+    → ((f : ℕ) × Formed sealed_stage g f s.formula)
+    × ((f : ℕ) → Formed sealed_stage g f s.formula → (page : Page) → Publishes page → (lines.line (after g) page (entered_as f s)).answer ≡ Ok n)
+
 -- after every history, the refutations are those that refute answered a number for, by these numbers, and reading any other is refused
 abbrev pub RefutationsHeld : Type 0
 RefutationsHeld = (s : Stage) (h : History s) (n : ℕ)
-    → ((f i : ℕ) → (refutation_in (after h) n ≡ Ok (record { formula = f; position = i })) ↔ ((r : Run) × Held s h n f i r))
-    × ((refutation_in (after h) n ≡ Err RefutationNotHeld) ↔ ((f i : ℕ) (r : Run) → Held s h n f i r → ⊥))
+    → ((f i : ℕ) → (refutation_in (after h) n ≡ Ok (record { formula = f; position = i })) ↔ ((r : Run) × HeldRefutation s h n f i r))
+    × ((refutation_in (after h) n ≡ Err RefutationNotHeld) ↔ ((f i : ℕ) (r : Run) → HeldRefutation s h n f i r → ⊥))
 
 -- and the run that a refutation was held with keeps the assumptions and breaks the formula at the position
 abbrev pub RefutationsHaveRuns : Type 0
-RefutationsHaveRuns = (s : Stage) (h : History s) (n f i : ℕ) (r : Run) → Held s h n f i r → Breaks (after h).formulas (after h).assumptions r f i
+RefutationsHaveRuns = (s : Stage) (h : History s) (n f i : ℕ) (r : Run) → HeldRefutation s h n f i r → Breaks (after h).formulas (after h).assumptions r f i
 
--- the counts are above just those numbers and places, and there are no lines yet
+-- the counts are above just those numbers and places
 abbrev pub CountsTell : Type 0
 CountsTell = (s : Stage) (h : History s) (n : ℕ)
     → ((n < (counts_of (after h)).formulas) ↔ ((A : Formula) × Formed s h n A))
     × ((n < (counts_of (after h)).assumptions) ↔ ((f : ℕ) × Assumed s h n f))
-    × ((n < (counts_of (after h)).refutations) ↔ ((f : ℕ) × (i : ℕ) × (r : Run) × Held s h n f i r))
-    × ((counts_of (after h)).lines ≡ 0)
+    × ((n < (counts_of (after h)).lines) ↔ ((l : Line) × HeldLine s h n l))
+    × ((n < (counts_of (after h)).refutations) ↔ ((f : ℕ) × (i : ℕ) × (r : Run) × HeldRefutation s h n f i r))
 
 -- after every history, so many scratch words are enough for truth and refute
 abbrev pub ScratchSuffices : ℕ → Type 0
 ScratchSuffices most = (s : Stage) (h : History s) (r : Run) (f i n : ℕ) → most ≤ n
     → ((judging.truth (after h) r f i n).answer ≢ Err ScratchTooShort) × ((judging.refute (after h) r f i n).answer ≢ Err ScratchTooShort)
 
--- how a formula stands after a history: it is not entered; it is refuted, by its first refutation; or it has none and is open
+-- how a formula stands after a history: it is not entered; it is derived, by its first line; it is refuted, by its first refutation; or it has neither and is open
 pub data Stands (s : Stage) (h : History s) (f : ℕ) : Result Standing Refusal → Type 0 where
   not_entered : ((A : Formula) → Formed s h f A → ⊥) → Stands s h f (Err NotEntered)
-  refuted_first : (A : Formula) → Formed s h f A → (n i : ℕ) (r : Run) → Held s h n f i r → ((m j : ℕ) (q : Run) → m < n → Held s h m f j q → ⊥)
-      → Stands s h f (Ok (Refuted n))
-  still_open : (A : Formula) → Formed s h f A → ((m j : ℕ) (q : Run) → Held s h m f j q → ⊥) → Stands s h f (Ok Open)
+  derived_first : (A : Formula) → Formed s h f A → (n : ℕ) (l : Line) → HeldLine s h n l → l.formula ≡ f
+      → ((m : ℕ) (k : Line) → m < n → HeldLine s h m k → k.formula ≢ f) → Stands s h f (Ok (Derived n))
+  refuted_first : (A : Formula) → Formed s h f A → ((m : ℕ) (k : Line) → HeldLine s h m k → k.formula ≢ f)
+      → (n i : ℕ) (r : Run) → HeldRefutation s h n f i r → ((m j : ℕ) (q : Run) → m < n → HeldRefutation s h m f j q → ⊥) → Stands s h f (Ok (Refuted n))
+  still_open : (A : Formula) → Formed s h f A → ((m : ℕ) (k : Line) → HeldLine s h m k → k.formula ≢ f)
+      → ((m j : ℕ) (q : Run) → HeldRefutation s h m f j q → ⊥) → Stands s h f (Ok Open)
 
 abbrev pub StandingTells : Type 0
 StandingTells = (s : Stage) (h : History s) (f : ℕ) → Stands s h f (standing_in (after h) f)
@@ -108,14 +161,20 @@ LimitsKept = (s : Stage) (h : History s) → Limits (after h)
 pub record Promises : Type 0 where
   pub form_exact : FormExact
   pub assume_exact : AssumeExact
+  pub line_exact : LineExact
+  pub line_held_exactly : LineHeldExactly
   pub truth_exact : TruthExact
   pub refute_exact : RefuteExact
-  pub held_exactly : HeldExactly
+  pub refutation_held_exactly : RefutationHeldExactly
   pub rows_tell : RowsTell
   pub rest_stays : RestStays
   pub refusals_change_nothing : RefusalsChangeNothing
   pub formulas_formed : FormulasFormed
   pub assumptions_assumed : AssumptionsAssumed
+  pub lines_held : LinesHeld
+  pub held_lines_true : HeldLinesTrue
+  pub never_both : NeverBoth
+  pub derivations_held : DerivationsHeld
   pub refutations_held : RefutationsHeld
   pub refutations_have_runs : RefutationsHaveRuns
   pub counts_tell : CountsTell

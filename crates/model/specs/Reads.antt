@@ -3,13 +3,14 @@ use Rattle.std.specs.Prelude.{ℕ, cond, List, length, Some, None, Ok, Err, Opti
 use Rattle.std.specs.List.{slice_get, position}
 use Rattle.std.specs.Option.{option_map, unwrap_or, ok_or}
 use Rattle.refusals.specs.declared.Refusal.{Refusal}
-use Rattle.refusals.specs.declared.Refusal.TheVariants.{NotEntered, RefutationNotHeld}
+use Rattle.refusals.specs.declared.Refusal.TheVariants.{NotEntered, LineNotHeld, RefutationNotHeld}
 use Rattle.logic.specs.Formula.{Formula, falsum, atom, implies, next, always}
 use Rattle.logic.specs.Same.{same}
 use Rattle.formulas.specs.declared.entry.Entry.{Entry}
 use Rattle.formulas.specs.declared.entry.Entry.TheVariants.{False, Atom, Implies, Next, Always}
 use Rattle.formulas.specs.Adding.{place}
 use Rattle.model.specs.declared.counts.Counts.{Counts}
+use Rattle.model.specs.declared.line.Line.{Line}
 use Rattle.model.specs.declared.refutation.Refutation.{Refutation}
 use Rattle.model.specs.declared.standing.Standing.{Standing}
 use Rattle.model.specs.declared.standing.Standing.TheVariants.{Derived, Refuted, Open}
@@ -42,6 +43,10 @@ entry_in c n = option_map (as_entry c.formulas) (slice_get c.formulas n)
 -- the formula that is assumed at a place, by its number
 abbrev pub assumption_in : Case → ℕ → Option ℕ
 assumption_in c k = slice_get c.assumptions k
+
+-- the line with a number, or a refusal if none is held
+abbrev pub line_in : Case → ℕ → Result Line Refusal
+line_in c n = ok_or (slice_get c.lines n) LineNotHeld
 
 -- the refutation with a number, or a refusal if none is held
 abbrev pub refutation_in : Case → ℕ → Result Refutation Refusal

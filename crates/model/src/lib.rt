@@ -2,9 +2,11 @@
 #![tactic(auto)]
 
 mod counts;
+mod line;
 mod refutation;
 mod standing;
 
 pub use counts::Counts;
+pub use line::Line;
 pub use refutation::Refutation;
 pub use standing::Standing;

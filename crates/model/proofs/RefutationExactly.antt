@@ -10,7 +10,7 @@ use Rattle.model.specs.Case.{Case}
 use Rattle.model.specs.Judging.{true_at, verdict, judge}
 use Rattle.model.specs.Breaking.{Breaks}
 use Rattle.model.specs.Limits.{AssumptionsEntered}
-use Rattle.model.specs.Promises.{HeldExactly}
+use Rattle.model.specs.Promises.{RefutationHeldExactly}
 use Rattle.model.proofs.Checks.{check_passes}
 use Rattle.model.proofs.Describing.{numbered_is}
 use Rattle.model.proofs.Judged.{first_failure}
@@ -31,8 +31,8 @@ module _ (c : Case) (entered : AssumptionsEntered c) (r : Run) (f i : ℕ) (b : 
   judged : judge c r f i ≡ Ok tt
   judged = ap₂ verdict (none_fails (first_failing (true_at c r) (r.stem + r.loop) 0 c.assumptions) refl) (is_false (true_at c r f i) refl)
 
-pub held_exactly : HeldExactly
-held_exactly c entered r f i n m = (
+pub refutation_held_exactly : RefutationHeldExactly
+refutation_held_exactly c entered r f i n m = (
   λ is. let p = refute_allowed c r f i n m is in (p.0, p.1, p.2, refute_breaks c r f i n m entered is),
   λ p.
       let passed = check_passes c r f i n p.2.entered p.2.short p.2.within p.2.room in

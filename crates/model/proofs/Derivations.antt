@@ -1,0 +1,92 @@
+-- A derivation that a case is ready for is held line by line, whatever other calls come in between.
+use Rattle.std.proofs.Common.{◌≡◌, ℕ, ◌<◌, List, length, Some, sym, ap, ◌∙◌, subst, inl, inr, arith}
+use Rattle.std.specs.List.{slice_get}
+use Rattle.std.proofs.lemmas.Bool.{cases_lt}
+use Rattle.logic.specs.Formula.{Formula}
+use Rattle.calculus.specs.Derivations.{Derivation}
+use Rattle.formulas.specs.Adding.{Distinct}
+use Rattle.formulas.proofs.Members.{nth_within, nth_there}
+use Rattle.model.specs.declared.line.Line.{Line}
+use Rattle.model.specs.Case.{Case}
+use Rattle.model.specs.Describes.{Number}
+use Rattle.model.specs.History.{sealed_stage, Call, History, then, after, Formed, formed_earlier, Assumed, assumed_earlier}
+use Rattle.model.specs.Entering.{Ready, Between, form_between, truth_between, refute_between, refused_between, Entering, not_begun, other_call, next_line}
+use Rattle.model.specs.Promises.{DerivationsHeld}
+use Rattle.model.proofs.Exact.{form_exact}
+use Rattle.model.proofs.Forming.{form_enters_no_line}
+use Rattle.model.proofs.LineChanges.{line_refused}
+use Rattle.model.proofs.RefuteChanges.{truth_changes_nothing, refute_enters_no_line}
+use Rattle.model.proofs.NextLine.{Along, next_answers, next_along}
+use Rattle.model.proofs.Histories.{call_keeps_formulas, formed_there, assumed_there, limits_kept}
+use Rattle.model.proofs.HeldLines.{lines_from}
+
+-- a call that comes between leaves the lines as they are
+between_lines : (g : History sealed_stage) (x : Call sealed_stage) → Between g x → (after (then g x)).lines ≡ (after g).lines
+between_lines g x (form_between kind left right) = form_enters_no_line (after g) kind left right (form_exact (after g) kind left right)
+between_lines g x (truth_between r f i n) = ap (λ (d : Case). d.lines) (truth_changes_nothing (after g) r f i n)
+between_lines g x (refute_between r f i n) = refute_enters_no_line (after g) r f i n
+between_lines g x (refused_between page l e is) = ap (λ (d : Case). d.lines) (line_refused (after g) page l e is)
+
+-- in a list where nothing stands twice, a member has one number
+one_number : {X : Type 0} (xs : List X) → Distinct xs → (i j : ℕ) (x : X) → slice_get xs i ≡ Some x → slice_get xs j ≡ Some x → i ≡ j
+one_number xs distinct i j x at_i at_j = elim (cases_lt i j) [
+  | inl below ↦ absurd (distinct i j below (nth_within xs j at_j) (at_i ∙ sym at_j))
+  | inr from ↦ elim (cases_lt j i) [
+    | inl above ↦ absurd (distinct j i above (nth_within xs i at_i) (at_j ∙ sym at_i))
+    | inr to ↦ omega arith
+  ]
+]
+
+module _ (D : Derivation) (h : History sealed_stage) (ready : Ready D h) where
+  -- behind the first n lines, what was formed and assumed before still is
+  formed_still : {n : ℕ} {g : History sealed_stage} → Entering D h n g → (f : ℕ) (A : Formula) → Formed sealed_stage h f A → Formed sealed_stage g f A
+  formed_still not_begun f A formed = formed
+  formed_still (other_call e x b) f A formed = formed_earlier (formed_still e f A formed)
+  formed_still (next_line e s is page publishes k number) f A formed = formed_earlier (formed_still e f A formed)
+
+  assumed_still : {n : ℕ} {g : History sealed_stage} → Entering D h n g → (k f : ℕ) → Assumed sealed_stage h k f → Assumed sealed_stage g k f
+  assumed_still not_begun k f assumed = assumed
+  assumed_still (other_call e x b) k f assumed = assumed_earlier (assumed_still e k f assumed)
+  assumed_still (next_line e s is page publishes j number) k f assumed = assumed_earlier (assumed_still e k f assumed)
+
+  -- the formula of an assumption of the derivation is assumed, by the only number that it has
+  module _ {n : ℕ} {g : History sealed_stage} (e : Entering D h n g) (f : ℕ) (A : Formula) (numbered : Number (after g).formulas f A) where
+    assumed_by : (k : ℕ) → slice_get D.assumptions k ≡ Some A → (j : ℕ) × (slice_get (after g).assumptions j ≡ Some f)
+    assumed_by k at =
+        let a = ready.assumptions k A at in
+        let there = formed_there sealed_stage g a.1 A (formed_still e a.1 A a.3) in
+        let same_number = one_number (after g).formulas (limits_kept sealed_stage g).formulas_distinct a.1 f A there numbered in
+        (a.0, subst (λ (x : ℕ). slice_get (after g).assumptions a.0 ≡ Some x) same_number (assumed_there sealed_stage g a.0 a.1 (assumed_still e a.0 a.1 a.2)))
+
+  -- a call that comes between leaves what is held of the derivation
+  along_between : {n : ℕ} (g : History sealed_stage) (x : Call sealed_stage) → Between g x → Along D n (after g) → Along D n (after (then g x))
+  along_between g x b along =
+      let same = between_lines g x b in
+      record {
+        count = ap length same ∙ along.count;
+        matches = λ k l there.
+            let m = along.matches k l (subst (λ (ls : List Line). slice_get ls k ≡ Some l) same there) in
+            (m.0, m.1, call_keeps_formulas sealed_stage (after g) x l.formula m.0.formula m.2);
+      }
+
+  no_line : (k : ℕ) (l : Line) → slice_get (after h).lines k ≡ Some l → ⊥
+  no_line k l there = ready.no_lines k l (lines_from sealed_stage h k l there)
+
+  -- behind the first n lines, the case has these and no others
+  along_all : {n : ℕ} {g : History sealed_stage} → Entering D h n g → Along D n (after g)
+  along_all not_begun =
+      let none : 0 < length (after h).lines → ⊥ = λ lt. let l = nth_there (after h).lines 0 lt in no_line 0 l.0 l.1 in
+      record { count = omega (arith, none); matches = λ k l there. absurd (no_line k l there) }
+  along_all (other_call {g = g} e x b) = along_between g x b (along_all e)
+  along_all (next_line {n = n} {g = g} e s is page publishes f formed) =
+      let numbered = formed_there sealed_stage g f s.formula formed in
+      next_along D (along_all e) s is f numbered (assumed_by e f s.formula numbered) (ready.few_parts n s is) ready.short page publishes
+
+pub derivations_held : DerivationsHeld
+derivations_held D h ready n g e s is =
+    let named = ready.formulas n s is in (
+      (named.0, formed_still D h ready e named.0 s.formula named.1),
+      λ f formed page publishes.
+          let numbered = formed_there sealed_stage g f s.formula formed in
+          next_answers D (along_all D h ready e) s is f numbered (assumed_by D h ready e f s.formula numbered) (ready.few_parts n s is) ready.short page publishes,
+    )

@@ -1,0 +1,85 @@
+-- line does what its relation says.
+use Rattle.std.proofs.Common.{◌≡◌, ℕ, ◌<◌, ◌≤◌, true, false, ◌&&◌, eqb, length, Some, None, Err, Option, sym, refl, ◌∙◌, inl, inr}
+use lib.Dec
+use Rattle.std.proofs.lemmas.Bool.{cond_both, ltb-true, ltb-false, eqb-true, eqb-false, and_parts, and_from, cases_Bool, true≢false}
+use Rattle.refusals.specs.declared.Refusal.TheVariants.{NotEntered, LineNotHeld, LinesFull}
+use Rattle.calculus.specs.declared.verdict.Verdict.{Verdict}
+use Rattle.calculus.specs.declared.verdict.Verdict.TheVariants.{Admitted, NotAdmitted, BeyondLimit}
+use Rattle.calculus.specs.Pages.{Page}
+use Rattle.formulas.specs.Forming.{numbered}
+use Rattle.formulas.proofs.Members.{nth_there}
+use Rattle.model.specs.declared.line.Line.{Line}
+use Rattle.model.specs.Case.{Case}
+use Rattle.model.specs.Calls.{says}
+use Rattle.model.specs.Lines.{place_held, premise, assumption_verdict, line_verdict, line_by, line}
+use Rattle.model.specs.Limits.{LinesEntered}
+use Rattle.model.specs.Outcomes.{Premise, no_premise, on_line, Stated, Lining, formula_not_entered, place_not_held, lines_full, assumption_line, no_assumption, page_admits, page_does_not_admit, page_beyond_limit}
+use Rattle.model.specs.Promises.{LineExact}
+use Rattle.model.proofs.Judged.{entered_number}
+use Rattle.model.proofs.AssumptionLines.{states, states_assumption, stated_tested}
+
+-- a place that is not held is a number that no line has
+pub unheld : (c : Case) (p : Option ℕ) → place_held c p ≡ false → (k : ℕ) × (p ≡ Some k) × (length c.lines ≤ k)
+unheld c None is = absurd (true≢false is)
+unheld c (Some k) is = (k, refl, ltb-false k (length c.lines) is)
+
+module _ (c : Case) (entered : LinesEntered c) where
+  -- a place that is held has a premise
+  pub premise_is : (p : Option ℕ) → place_held c p ≡ true → Premise c p (premise c p)
+  premise_is None held = no_premise
+  premise_is (Some k) held =
+      let x = nth_there c.lines k (ltb-true k (length c.lines) held) in
+      rw x.1 (on_line k x.0 (numbered c.formulas x.0.formula) x.1 (entered_number c.formulas x.0.formula (entered k x.0 x.1)))
+
+  module _ (page : Page) (l : Line) where
+    -- a line with an entered formula and held places is stated
+    pub stated : l.formula < length c.formulas → (place_held c l.first && place_held c l.second) ≡ true → Stated c l
+    stated known placed =
+        let p = and_parts (place_held c l.first) (place_held c l.second) placed in
+        record {
+          formula = numbered c.formulas l.formula;
+          numbered = entered_number c.formulas l.formula known;
+          first = premise c l.first;
+          first_is = premise_is l.first p.0;
+          second = premise c l.second;
+          second_is = premise_is l.second p.1;
+        }
+
+    unplaced : l.formula < length c.formulas → (place_held c l.first && place_held c l.second) ≡ false → Lining c page l (says c (Err LineNotHeld))
+    unplaced known not_placed = elim (cases_Bool (place_held c l.first)) [
+      | inr first ↦ let k = unheld c l.first first in place_not_held known k.0 (inl k.1) k.2
+      | inl first ↦ elim (cases_Bool (place_held c l.second)) [
+        | inr second ↦ let k = unheld c l.second second in place_not_held known k.0 (inr k.1) k.2
+        | inl second ↦ absurd (true≢false (sym (and_from (place_held c l.first) (place_held c l.second) first second) ∙ not_placed))
+      ]
+    ]
+
+    module _ (known : l.formula < length c.formulas) (placed : (place_held c l.first && place_held c l.second) ≡ true) where
+      abbrev s : Stated c l
+      s = stated known placed
+
+      by_page : length c.lines < 512 → (eqb l.rule 0 ≡ false) → (v : Verdict) → page.verdict l.rule s.formula s.first s.second ≡ v → Lining c page l (line_by c l v)
+      by_page room other Admitted is = page_admits s room (eqb-false l.rule 0 other) is
+      by_page room other NotAdmitted is = page_does_not_admit s room (eqb-false l.rule 0 other) is
+      by_page room other BeyondLimit is = page_beyond_limit s room (eqb-false l.rule 0 other) is
+
+      by_rule : length c.lines < 512 → Lining c page l (line_by c l (line_verdict c page l))
+      unfolding stated
+      by_rule room =
+          cond_both (eqb l.rule 0) (assumption_verdict c l) (page.verdict l.rule s.formula s.first s.second) (λ v. Lining c page l (line_by c l v))
+          (λ zero. cond_both (states c l) Admitted NotAdmitted (λ v. Lining c page l (line_by c l v))
+          (λ t. assumption_line s room (states_assumption c l (eqb-true l.rule 0 zero) t))
+          (λ f. no_assumption s room (eqb-true l.rule 0 zero) (λ a. true≢false (sym (stated_tested c l a) ∙ f))))
+          (λ other. by_page room other (page.verdict l.rule s.formula s.first s.second) refl)
+
+pub line_exact : LineExact
+unfolding line
+line_exact c entered page l =
+    cond_both (Dec.ltb l.formula (length c.formulas)) _ (says c (Err NotEntered)) (Lining c page l)
+    (λ known. let f_in = ltb-true l.formula (length c.formulas) known in
+    cond_both (place_held c l.first && place_held c l.second) _ (says c (Err LineNotHeld)) (Lining c page l)
+    (λ placed. cond_both (Dec.ltb (length c.lines) 512) (line_by c l (line_verdict c page l)) (says c (Err LinesFull)) (Lining c page l)
+    (λ few. by_rule c entered page l f_in placed (ltb-true (length c.lines) 512 few))
+    (λ full. lines_full (stated c entered page l f_in placed) (ltb-false (length c.lines) 512 full)))
+    (unplaced c entered page l f_in))
+    (λ past. formula_not_entered (ltb-false l.formula (length c.formulas) past))

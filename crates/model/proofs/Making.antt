@@ -1,0 +1,21 @@
+-- Calls that lead from the case of a history lead to that of the history that they make.
+use Rattle.std.proofs.Common.{◌≡◌, List, sym, refl, ap, subst}
+use Rattle.model.specs.Case.{Case}
+use Rattle.model.specs.History.{Stage, Call, History, then, after_call, after, Refused, Leads, no_more, refused_call, answered_call}
+use Rattle.model.specs.Making.{Makes, no_more as nothing_made, refused_call as refused_made, answered_call as answered_made}
+
+module _ (s : Stage) where
+  -- made behind a history, calls make one that ends in a case
+  abbrev pub MakesCase : History s → List (Call s) → Case → Type 0
+  MakesCase h xs d = (g : History s) × Makes s h xs g × (d ≡ after g)
+
+  leads_made : {c d : Case} {xs : List (Call s)} → Leads s c xs d → (h : History s) → c ≡ after h → MakesCase h xs d
+  leads_made no_more h is = (h, nothing_made, is)
+  leads_made (refused_call {x = x} e refused) h is =
+      (then h x, refused_made e (subst (λ (b : Case). Refused b x e) is refused), ap (λ (b : Case). after_call b x) is)
+  leads_made (answered_call {x = x} answered more) h is =
+      let rest = leads_made more (then h x) (ap (λ (b : Case). after_call b x) is) in
+      (rest.0, answered_made (λ e refused. answered e (subst (λ (b : Case). Refused b x e) (sym is) refused)) rest.1, rest.2)
+
+  pub made : (h : History s) {xs : List (Call s)} {d : Case} → Leads s (after h) xs d → MakesCase h xs d
+  made h leads = leads_made leads h refl

@@ -1,0 +1,53 @@
+-- What line answers, and what it leaves of the case.
+use Rattle.std.specs.Prelude.{ℕ, Bool, true, cond, ◌&&◌, List, [], ◌∷◌, ◌++◌, length, Some, None, Ok, Err, Option, ◌==◌, nat_eq, nat_lt, is_some, is_none}
+use Rattle.std.specs.List.{slice_get}
+use Rattle.std.specs.Option.{option_map}
+use Rattle.refusals.specs.declared.Refusal.TheVariants.{NotEntered, LineNotHeld, LinesFull, NotAdmitted as NotAdmittedRefusal, BeyondLimit as BeyondLimitRefusal}
+use Rattle.logic.specs.Formula.{Formula}
+use Rattle.calculus.specs.declared.verdict.Verdict.{Verdict}
+use Rattle.calculus.specs.declared.verdict.Verdict.TheVariants.{Admitted, NotAdmitted, BeyondLimit}
+use Rattle.calculus.specs.Pages.{Page}
+use Rattle.formulas.specs.Adding.{place}
+use Rattle.formulas.specs.Forming.{numbered}
+use Rattle.model.specs.declared.line.Line.{Line}
+use Rattle.model.specs.Case.{Case}
+use Rattle.model.specs.Calls.{Outcome, says}
+
+abbrev pub with_lines : Case → List Line → Case
+with_lines c ls = record { formulas = c.formulas; assumptions = c.assumptions; lines = ls; refutations = c.refutations }
+
+-- a place is empty, or the number of a held line
+abbrev pub place_held : Case → Option ℕ → Bool
+place_held c None = true
+place_held c (Some k) = nat_lt k (length c.lines)
+
+-- the formula on the line at a place
+abbrev pub premise : Case → Option ℕ → Option Formula
+premise c None = None
+premise c (Some k) = option_map (λ l. numbered c.formulas l.formula) (slice_get c.lines k)
+
+-- rule 0 is the case's own: it admits an assumption, with both places empty
+abbrev pub assumption_verdict : Case → Line → Verdict
+assumption_verdict c l = cond (is_none l.first && (is_none l.second && is_some (place nat_eq c.assumptions l.formula))) Admitted NotAdmitted
+
+-- every other rule is the page's
+abbrev pub line_verdict : Case → Page → Line → Verdict
+line_verdict c page l =
+    cond (l.rule == 0) (assumption_verdict c l)
+    (page.verdict l.rule (numbered c.formulas l.formula) (premise c l.first) (premise c l.second))
+
+-- a line is held if it is admitted
+abbrev pub line_by : Case → Line → Verdict → Outcome ℕ
+line_by c l Admitted = record { answer = Ok (length c.lines); after = with_lines c (c.lines ++ l ∷ []) }
+line_by c l NotAdmitted = says c (Err NotAdmittedRefusal)
+line_by c l BeyondLimit = says c (Err BeyondLimitRefusal)
+
+-- a line is entered under a page; a case holds 512
+unfoldable pub line : Case → Page → Line → Outcome ℕ
+line c page l =
+    cond (nat_lt l.formula (length c.formulas))
+    (cond (place_held c l.first && place_held c l.second)
+    (cond (nat_lt (length c.lines) 512) (line_by c l (line_verdict c page l))
+    (says c (Err LinesFull)))
+    (says c (Err LineNotHeld)))
+    (says c (Err NotEntered))

@@ -1,0 +1,8 @@
+// A line of a derivation: a rule, a formula, by its number, and two places, each the number of a held line or empty.
+#[derive(Clone, Copy, PartialEq, Eq, Debug)]
+pub struct Line {
+    pub rule: u16,
+    pub formula: u16,
+    pub first: Option<u16>,
+    pub second: Option<u16>,
+}
