@@ -1,14 +1,13 @@
 -- The model that a case of the program stands for.
-use Rattle.std.specs.Prelude.{[]}
 use Rattle.formulas.specs.Listed.{formulas_of}
 use Rattle.model.specs.Case.{Case}
 use Rattle.cases.specs.declared.case.Case as declared
-use Rattle.cases.specs.declared.stage.Open.{Open}
-use Rattle.cases.specs.declared.stage.Sealed.{Sealed}
+use Rattle.cases.specs.declared.stage.open.Open.{Open}
+use Rattle.cases.specs.declared.stage.sealed.Sealed.{Sealed}
 
 -- its formulas and assumptions, and what it holds at its stage
 unfoldable pub modelled : {S : Type 0} {stage : _} → declared.Case S stage → Case
-modelled {stage = stage} c = record { formulas = formulas_of c.formulas; assumptions = c.assumptions; lines = []; refutations = stage.held c.stage }
+modelled {stage = stage} c = record { formulas = formulas_of c.formulas; assumptions = c.assumptions; lines = stage.held_lines c.stage; refutations = stage.held_refutations c.stage }
 
 abbrev pub opened : {stage : _} → declared.Case Open stage → Case
 opened c = modelled c

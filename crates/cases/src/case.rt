@@ -3,7 +3,8 @@ ghost use Rattle.std.specs.Prelude.{◌≡◌, ℕ, ◌<◌, ◌≤◌, length, 
 ghost use Rattle.std.specs.List.{slice_get};
 ghost use Rattle.formulas.specs.Adding.{Distinct};
 ghost use Rattle.formulas.specs.Listed.{formulas_of};
-ghost use Rattle.model.specs.Breaking.{HaveRuns};
+ghost use Rattle.model.specs.Breaking.{HaveRuns, LinesFollow};
+ghost use Rattle.model.specs.declared.line.Line.{Line};
 
 use crate::stage::{Open, Sealed, Stage};
 use formulas::{FormulaList, Table};
@@ -11,6 +12,7 @@ use refusals::Refusal;
 use std::alloc::{AllocError, Global};
 
 mod judging;
+mod lines;
 mod reading;
 
 // The most assumptions that a case takes.
@@ -26,7 +28,9 @@ pub struct Case<S: Stage> {
     ghost within: { length assumptions ≤ 16 },
     ghost distinct: { Distinct assumptions },
     ghost entered: { (k f : ℕ) → slice_get assumptions k ≡ Some f → f < length (formulas_of formulas) },
-    ghost have_runs: { HaveRuns (formulas_of formulas) assumptions (S.held stage) },
+    ghost stated: { (n : ℕ) (l : Line) → slice_get (S.held_lines stage) n ≡ Some l → l.formula < length (formulas_of formulas) },
+    ghost follow: { LinesFollow (formulas_of formulas) assumptions (S.held_lines stage) },
+    ghost have_runs: { HaveRuns (formulas_of formulas) assumptions (S.held_refutations stage) },
 }
 
 pub type OpenCase = Case<Open>;
@@ -42,7 +46,7 @@ impl Case<Open> {
 
     // An empty case, with memory for all that it will ever hold.
     // What every history of calls on it keeps is promised here.
-    #[tactic(auto, using(model::proofs::Standings::promises), unfolding(crate::specs::Model::modelled))]
+    #[tactic(auto, using(model::proofs::Promises::promises), unfolding(crate::specs::Model::modelled))]
     pub fn new(heap: Global) -> Result<OpenCase, AllocError>
         ensures empty { IfOk result (λ c. opened c ≡ empty) }
         ensures promised { Promises }
@@ -51,7 +55,8 @@ impl Case<Open> {
             formulas: FormulaList::new(heap)?,
             assumptions: Table::new(heap)?,
             stage: Open {
-                room: Table::new(heap)?,
+                lines: Table::new(heap)?,
+                refutations: Table::new(heap)?,
             },
         })
     }
@@ -76,12 +81,12 @@ impl Case<Open> {
         let Case {
             formulas,
             assumptions,
-            stage: Open { room },
+            stage: Open { lines, refutations },
         } = self;
         Case {
             formulas,
             assumptions,
-            stage: Sealed { refutations: room },
+            stage: Sealed { lines, refutations },
         }
     }
 }

@@ -1,9 +1,9 @@
-// Cases: formulas and assumptions, first open and then sealed; refutations are held at the second stage.
+// Cases: formulas and assumptions, first open and then sealed; lines and refutations are held at the second stage.
 #![tactic(auto)]
 
 mod case;
 mod stage;
 
 pub use case::{Case, OpenCase, SealedCase};
-pub use model::{Counts, Refutation, Standing};
+pub use model::{Counts, Line, Refutation, Standing};
 pub use stage::{Open, Sealed, Stage};

@@ -1,13 +1,13 @@
 // What is read of a case.
 use crate::case::Case;
-use crate::stage::{REFUTATIONS, Stage};
+use crate::stage::{LINES, REFUTATIONS, Stage};
 use formulas::Entry;
-use model::{Counts, Refutation, Standing};
+use model::{Counts, Line, Refutation, Standing};
 use refusals::Refusal;
 
 impl<S: Stage> Case<S> {
     ghost use Rattle.std.specs.Prelude.{◌≡◌, ◌<◌, ◌≤◌, IfSome};
-    ghost use Rattle.model.specs.Reads.{counts_of, entry_in, assumption_in, refutation_in, standing_in, first_refutation_of};
+    ghost use Rattle.model.specs.Reads.{counts_of, entry_in, assumption_in, line_in, refutation_in, standing_in, first_line, first_refutation_of};
     ghost use Rattle.cases.specs.Model.{modelled};
 
     // How many formulas, assumptions, lines and refutations the case has.
@@ -19,7 +19,7 @@ impl<S: Stage> Case<S> {
         Counts {
             formulas: self.formulas.len(),
             assumptions: self.assumptions.as_slice().len(),
-            lines: 0,
+            lines: self.stage.lines().len(),
             refutations: self.stage.refutations().len(),
         }
     }
@@ -38,6 +38,18 @@ impl<S: Stage> Case<S> {
         ensures { result ≡ assumption_in (modelled self.now) number }
     {
         self.assumptions.get(number)
+    }
+
+    // The line with a number.
+    #[tactic(auto, unfolding(crate::specs::Model::modelled))]
+    pub fn held_line(&self, number: u16) -> Result<Line, Refusal>
+        ensures { result ≡ line_in (modelled self.now) number }
+    {
+        self.stage
+            .lines()
+            .get(usize::from(number))
+            .copied()
+            .ok_or(Refusal::LineNotHeld)
     }
 
     // The refutation with a number.
@@ -60,10 +72,25 @@ impl<S: Stage> Case<S> {
         if usize::from(formula) >= self.formulas.len() {
             return Err(Refusal::NotEntered);
         }
+        if let Some(number) = self.first_line(formula) {
+            return Ok(Standing::Derived(number as u16));
+        }
         match self.first_refutation(formula) {
             Some(number) => Ok(Standing::Refuted(number as u16)),
             None => Ok(Standing::Open),
         }
+    }
+
+    // The number of the first line of a formula.
+    #[tactic(auto, unfolding(crate::specs::Model::modelled))]
+    fn first_line(&self, formula: u16) -> Option<usize>
+        ensures number { result ≡ first_line (modelled self.now) formula }
+        ensures within { IfSome result (λ n. n < LINES) }
+    {
+        self.stage
+            .lines()
+            .iter()
+            .position(|line| line.formula == formula)
     }
 
     // The number of the first refutation of a formula.

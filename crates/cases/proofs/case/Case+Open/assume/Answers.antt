@@ -28,6 +28,8 @@ invariant_of-self c =
       distinct = subst Distinct (sym after) (add_distinct eqb eqb_tells 16 s.assumptions c.args.formula s.distinct);
       entered = subst (λ (xs : List ℕ). (k g : ℕ) → slice_get xs k ≡ Some g → g < length (formulas_of s.formulas)) (sym after)
           (add_every (λ g. g < length (formulas_of s.formulas)) 16 s.assumptions c.args.formula _ s.entered (omega arith));
+      stated = λ n l is. absurd (some_not_none (sym is));
+      follow = λ n l is. absurd (some_not_none (sym is));
       have_runs = λ n x is. absurd (some_not_none (sym is));
     }
 

@@ -6,7 +6,7 @@ use Rattle.model.specs.Calls.{form, with_formulas}
 use Rattle.model.specs.Describes.{Number}
 use Rattle.model.proofs.Exact.{form_exact}
 use Rattle.model.proofs.Forming.{form_keeps}
-use Rattle.model.proofs.Kept.{have_runs_kept}
+use Rattle.model.proofs.Kept.{lines_follow_kept, have_runs_kept}
 use Rattle.cases.specs.Model.{modelled}
 use Rattle.cases.proofs.case.Case.form.Goals as goal
 
@@ -23,6 +23,12 @@ invariant_of-self g c =
       entered = λ k f is.
           let old : f < length (formulas_of s.formulas) = s.entered k f is in
           omega (arith, form_longer (formulas_of s.formulas) c.args.kind c.args.left c.args.right, ap length after);
+      stated = λ n l is.
+          let old : l.formula < length (formulas_of s.formulas) = s.stated n l is in
+          omega (arith, form_longer (formulas_of s.formulas) c.args.kind c.args.left c.args.right, ap length after);
+      follow = lines_follow_kept (formulas_of s.formulas) _ s.assumptions
+          (λ n A is. subst (λ fs. Number fs n A) (sym after) (form_keeps m c.args.kind c.args.left c.args.right formed n A is))
+          s.entered m.lines s.follow;
       have_runs = have_runs_kept (formulas_of s.formulas) _ s.assumptions
           (λ n A is. subst (λ fs. Number fs n A) (sym after) (form_keeps m c.args.kind c.args.left c.args.right formed n A is))
           s.entered m.refutations s.have_runs;

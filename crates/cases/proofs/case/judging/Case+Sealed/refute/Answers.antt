@@ -71,6 +71,8 @@ invariant_of-self g c =
       within = s.within;
       distinct = s.distinct;
       entered = s.entered;
+      stated = s.stated;
+      follow = s.follow;
       have_runs = subst (HaveRuns m.formulas m.assumptions) (sym (c.push.ensures.after ∙ after_new 64 m.refutations x room)) runs;
     }
 

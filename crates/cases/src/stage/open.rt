@@ -1,0 +1,29 @@
+// The first stage: a case takes formulas and assumptions.
+ghost use Rattle.std.specs.Prelude.{◌≡◌, []};
+
+use crate::stage::{LINES, REFUTATIONS, Stage};
+use formulas::Table;
+use model::{Line, Refutation};
+
+// It holds nothing, and has set memory aside for what it holds once it is sealed.
+#[derive(Drop)]
+pub struct Open {
+    pub(crate) lines: Table<Line, LINES>,
+    pub(crate) refutations: Table<Refutation, REFUTATIONS>,
+    ghost no_lines: { lines ≡ [] },
+    ghost no_refutations: { refutations ≡ [] },
+}
+
+impl Stage for Open {
+    ghost held_lines = { λ _. [] };
+
+    ghost held_refutations = { λ _. [] };
+
+    fn lines(&self) -> &[Line] {
+        &[]
+    }
+
+    fn refutations(&self) -> &[Refutation] {
+        &[]
+    }
+}
