@@ -3,6 +3,7 @@ use Rattle.std.proofs.Common.{ℕ, zero, suc, ◌+◌, ◌≤◌, eqb, List, len
 use lib.Dec
 use Rattle.std.proofs.lemmas.Bool.{cond_both, ltb-false}
 use Rattle.runs.specs.Bytes.{word}
+use Rattle.calculus.specs.Pages.{Page}
 use Rattle.model.specs.Case as cases
 use Rattle.model.specs.Calls as calls
 use Rattle.files.specs.declared.fault.Fault.{Fault}
@@ -69,13 +70,13 @@ module _ (n at : ℕ) (at_in : at ≤ n) where
   front_stepped c behind behind_in (Ok SealRecord) go rest = behind_in
   front_stepped c behind behind_in (Err e) go rest = at_in
 
-  body_stepped : (c : cases.Case) (words : List ℕ) (r : Result Request PayloadFault) (go : cases.Case → List ℕ → BodyReading)
-      → ((d : cases.Case) (left : List ℕ) → BodyWithin n (go d left).answer) → BodyWithin n (body_step c words at r go).answer
-  body_stepped c words (Ok x) go rest =
-      let o = asked c words x in
+  body_stepped : (page : Page) (c : cases.Case) (words : List ℕ) (r : Result Request PayloadFault) (go : cases.Case → List ℕ → BodyReading)
+      → ((d : cases.Case) (left : List ℕ) → BodyWithin n (go d left).answer) → BodyWithin n (body_step page c words at r go).answer
+  body_stepped page c words (Ok x) go rest =
+      let o = asked page c words x in
       called_both at (body_stopped o.after o.scratch) (go o.after o.scratch) (λ (r : BodyReading). BodyWithin n r.answer) o.answer (λ _. at_in)
       (rest o.after o.scratch)
-  body_stepped c words (Err e) go rest = at_in
+  body_stepped page c words (Err e) go rest = at_in
 
 front_from_within : (n : ℕ) (c : cases.Case) (at : ℕ) (rs : Records) → at + extent rs ≤ n → FrontWithin n (front_from c at rs).answer
 front_from_within n c at none l = omega arith
@@ -84,18 +85,18 @@ front_from_within n c at (more kind payload rest) l =
     front_stepped n at (omega arith) c (at + 4 + length payload) (omega arith) (record_of_front kind payload) _
     (λ d. front_from_within n d (at + 4 + length payload) rest (omega arith))
 
-body_from_within : (n : ℕ) (c : cases.Case) (words : List ℕ) (at : ℕ) (rs : Records) → at + extent rs ≤ n → BodyWithin n (body_from c words at rs).answer
-body_from_within n c words at none l = tt
-body_from_within n c words at (bad e) l = omega arith
-body_from_within n c words at (more kind payload rest) l =
-    body_stepped n at (omega arith) c words (record_of_body kind payload) _
-    (λ d left. body_from_within n d left (at + 4 + length payload) rest (omega arith))
+body_from_within : (page : Page) (n : ℕ) (c : cases.Case) (words : List ℕ) (at : ℕ) (rs : Records) → at + extent rs ≤ n → BodyWithin n (body_from page c words at rs).answer
+body_from_within page n c words at none l = tt
+body_from_within page n c words at (bad e) l = omega arith
+body_from_within page n c words at (more kind payload rest) l =
+    body_stepped n at (omega arith) page c words (record_of_body kind payload) _
+    (λ d left. body_from_within page n d left (at + 4 + length payload) rest (omega arith))
 
 pub front_within : (c : cases.Case) (bytes : List ℕ) → FrontWithin (length bytes) (front c bytes).answer
 unfolding front
 front_within c bytes = front_from_within (length bytes) c 0 (records bytes) (omega (arith, records_extent bytes))
 
-pub body_within : (c : cases.Case) (start : ℕ) (words bytes : List ℕ) → start ≤ length bytes → BodyWithin (length bytes) (body c start words bytes).answer
-body_within c start words bytes within =
-    rw (body_inside c start words bytes within)
-    (body_from_within (length bytes) c words start (records (drop start bytes)) (omega (arith, records_extent (drop start bytes), length-drop start bytes)))
+pub body_within : (page : Page) (c : cases.Case) (start : ℕ) (words bytes : List ℕ) → start ≤ length bytes → BodyWithin (length bytes) (body page c start words bytes).answer
+body_within page c start words bytes within =
+    rw (body_inside page c start words bytes within)
+    (body_from_within page (length bytes) c words start (records (drop start bytes)) (omega (arith, records_extent (drop start bytes), length-drop start bytes)))

@@ -3,6 +3,7 @@ use Rattle.std.proofs.Common.{◌≡◌, ℕ, ◌+◌, ◌≤◌, ltb, Bool, tru
 use Rattle.std.proofs.lemmas.List.{drop-drop, drop_all}
 use Rattle.std.proofs.lemmas.Bool.{cond-false, le-ltb}
 use Rattle.std.specs.Result.{result_transpose}
+use Rattle.calculus.specs.Pages.{Page}
 use Rattle.model.specs.Case as cases
 use Rattle.files.specs.declared.fault.Cause.TheVariants.{Record}
 use Rattle.files.specs.declared.fault.ErrorAt.{ErrorAt}
@@ -68,17 +69,17 @@ unfolding front
 front_left c bytes = ap (front_from c 0) (sym (records_within bytes 0 (omega arith)))
 
 -- a body is faulted at a start past the end, and read from any other
-from_place : (c : cases.Case) (start : ℕ) (words : List ℕ) (past : Bool) (rs : Records)
-    → cond past (body_stopped c words (Record ShortHead) start) (body_from c words start rs) ≡ body_from c words start (cond past (bad ShortHead) rs)
-from_place c start words true rs = refl
-from_place c start words false rs = refl
+from_place : (page : Page) (c : cases.Case) (start : ℕ) (words : List ℕ) (past : Bool) (rs : Records)
+    → cond past (body_stopped c words (Record ShortHead) start) (body_from page c words start rs) ≡ body_from page c words start (cond past (bad ShortHead) rs)
+from_place page c start words true rs = refl
+from_place page c start words false rs = refl
 
 -- a body is read from the record at its start on
-pub body_left : (c : cases.Case) (start : ℕ) (words bytes : List ℕ) → body c start words bytes ≡ body_from c words start (records_from bytes start)
+pub body_left : (page : Page) (c : cases.Case) (start : ℕ) (words bytes : List ℕ) → body page c start words bytes ≡ body_from page c words start (records_from bytes start)
 unfolding body
-body_left c start words bytes = from_place c start words (ltb (length bytes) start) (records (drop start bytes))
+body_left page c start words bytes = from_place page c start words (ltb (length bytes) start) (records (drop start bytes))
 
 -- the same at a start that does not lie past the end
-pub body_inside : (c : cases.Case) (start : ℕ) (words bytes : List ℕ) → start ≤ length bytes
-    → body c start words bytes ≡ body_from c words start (records (drop start bytes))
-body_inside c start words bytes l = body_left c start words bytes ∙ ap (body_from c words start) (records_within bytes start l)
+pub body_inside : (page : Page) (c : cases.Case) (start : ℕ) (words bytes : List ℕ) → start ≤ length bytes
+    → body page c start words bytes ≡ body_from page c words start (records (drop start bytes))
+body_inside page c start words bytes l = body_left page c start words bytes ∙ ap (body_from page c words start) (records_within bytes start l)

@@ -2,14 +2,15 @@
 use Rattle.std.specs.Prelude.{◌≡◌, ℕ, ◌≤◌, List, [], ◌∷◌, length, drop, Ok, Err, Option, Result}
 use Rattle.logic.specs.Formula.{Formula}
 use Rattle.logic.specs.Run.{Run}
+use Rattle.calculus.specs.Pages.{Page}
 use Rattle.model.specs.Case as cases
-use Rattle.model.specs.History.{open_stage, sealed_stage, Call, form, assume, refute, Leads}
+use Rattle.model.specs.History.{open_stage, sealed_stage, Call, form, assume, line, refute, Leads}
 use Rattle.model.specs.LastRows.{LastRows, with_last}
 use Rattle.files.specs.declared.fault.PayloadFault.{PayloadFault}
 use Rattle.files.specs.declared.payload.FrontRecord.{FrontRecord}
 use Rattle.files.specs.declared.payload.FrontRecord.TheVariants.{FormRecord, AssumeRecord, SealRecord}
 use Rattle.files.specs.Records.{Records, none, bad, more, records}
-use Rattle.files.specs.Payloads.{record_of_front, Request, form_request, refute_request, record_of_body}
+use Rattle.files.specs.Payloads.{record_of_front, Request, form_request, line_request, refute_request, record_of_body}
 use Rattle.files.specs.Reading.{front, body}
 
 -- a record of the front, and the calls behind it: the seal and a record that is not allowed end them
@@ -24,33 +25,34 @@ front_calls none = []
 front_calls (bad e) = []
 front_calls (more kind payload rest) = front_call (record_of_front kind payload) (front_calls rest)
 
--- a record of the body, and the calls behind it, by the number of scratch words, which is the same for all
-abbrev pub body_call : ℕ → Result Request PayloadFault → List (Call sealed_stage) → List (Call sealed_stage)
-body_call n (Ok (form_request f)) xs = form f.kind f.left f.right ∷ xs
-body_call n (Ok (refute_request claim r)) xs = refute r claim.formula claim.position n ∷ xs
-body_call n (Err e) xs = []
+-- a record of the body, and the calls behind it, by the page of rules and the number of scratch words, which are the same for all
+abbrev pub body_call : Page → ℕ → Result Request PayloadFault → List (Call sealed_stage) → List (Call sealed_stage)
+body_call page n (Ok (form_request f)) xs = form f.kind f.left f.right ∷ xs
+body_call page n (Ok (line_request l)) xs = line page l ∷ xs
+body_call page n (Ok (refute_request claim r)) xs = refute r claim.formula claim.position n ∷ xs
+body_call page n (Err e) xs = []
 
-abbrev pub body_calls : ℕ → Records → List (Call sealed_stage)
-body_calls n none = []
-body_calls n (bad e) = []
-body_calls n (more kind payload rest) = body_call n (record_of_body kind payload) (body_calls n rest)
+abbrev pub body_calls : Page → ℕ → Records → List (Call sealed_stage)
+body_calls page n none = []
+body_calls page n (bad e) = []
+body_calls page n (more kind payload rest) = body_call page n (record_of_body kind payload) (body_calls page n rest)
 
 -- reading the front is making its records' calls in their order, up to the first that is refused
 abbrev pub FrontMakesCalls : Type 0
 FrontMakesCalls = (c : cases.Case) (bytes : List ℕ) → Leads open_stage c (front_calls (records bytes)) (front c bytes).after
 
--- and so is reading the body, from a start that does not lie past the end
+-- and so is reading the body under any page, from a start that does not lie past the end
 abbrev pub BodyMakesCalls : Type 0
-BodyMakesCalls = (c : cases.Case) (start : ℕ) (words bytes : List ℕ) → start ≤ length bytes
-    → Leads sealed_stage c (body_calls (length words) (records (drop start bytes))) (body c start words bytes).after
+BodyMakesCalls = (page : Page) (c : cases.Case) (start : ℕ) (words bytes : List ℕ) → start ≤ length bytes
+    → Leads sealed_stage c (body_calls page (length words) (records (drop start bytes))) (body page c start words bytes).after
 
 -- reading the body leaves as many scratch words as there were
 abbrev pub BodyKeepsScratchLength : Type 0
-BodyKeepsScratchLength = (c : cases.Case) (start : ℕ) (words bytes : List ℕ) → length (body c start words bytes).scratch ≡ length words
+BodyKeepsScratchLength = (page : Page) (c : cases.Case) (start : ℕ) (words bytes : List ℕ) → length (body page c start words bytes).scratch ≡ length words
 
 -- and they hold the rows that its last refutation which was judged left there, or are as they were if none was
 abbrev pub BodyLeavesLastRows : Type 0
-BodyLeavesLastRows = (c : cases.Case) (start : ℕ) (words bytes : List ℕ) → start ≤ length bytes
+BodyLeavesLastRows = (page : Page) (c : cases.Case) (start : ℕ) (words bytes : List ℕ) → start ≤ length bytes
     → (last : Option (Run × List Formula))
-    × LastRows sealed_stage c (body_calls (length words) (records (drop start bytes))) last
-    × ((body c start words bytes).scratch ≡ with_last last words)
+    × LastRows sealed_stage c (body_calls page (length words) (records (drop start bytes))) last
+    × ((body page c start words bytes).scratch ≡ with_last last words)

@@ -1,10 +1,11 @@
 -- What a record asks for, by its kind and payload.
-use Rattle.std.specs.Prelude.{ℕ, cond, List, length, drop, Ok, Err, Result, ◌==◌, nat_lt, slice_index}
+use Rattle.std.specs.Prelude.{ℕ, cond, List, length, drop, Some, None, Ok, Err, Option, Result, ◌==◌, nat_lt, slice_index}
 use Rattle.logic.specs.Run.{Run}
 use Rattle.runs.specs.declared.fault.RunFault.{RunFault}
 use Rattle.runs.specs.Bytes.{word}
 use Rattle.runs.specs.Pulses.{pulse_check, pulse_run}
 use Rattle.runs.specs.Tables.{table_check, table_run}
+use Rattle.model.specs.declared.line.Line as model
 use Rattle.files.specs.declared.fault.PayloadFault.{PayloadFault}
 use Rattle.files.specs.declared.fault.PayloadFault.TheVariants.{KindNotAllowed, WrongLength}
 use Rattle.files.specs.declared.payload.Claim.{Claim}
@@ -12,7 +13,7 @@ use Rattle.files.specs.declared.payload.Form as declared
 use Rattle.files.specs.declared.payload.FrontRecord.{FrontRecord}
 use Rattle.files.specs.declared.payload.FrontRecord.TheVariants.{FormRecord, AssumeRecord, SealRecord}
 use Rattle.files.specs.declared.payload.RecordKind.{RecordKind}
-use Rattle.files.specs.declared.payload.RecordKind.TheVariants.{Form, Assume, Seal, Table, Pulses}
+use Rattle.files.specs.declared.payload.RecordKind.TheVariants.{Form, Assume, Seal, Line, Table, Pulses}
 use Rattle.files.specs.Faults.{run_fault}
 
 -- the kinds of records by their numbers
@@ -21,9 +22,10 @@ kind_of kind =
     cond (kind == 1) (Ok Form)
     (cond (kind == 2) (Ok Assume)
     (cond (kind == 3) (Ok Seal)
+    (cond (kind == 4) (Ok Line)
     (cond (kind == 5) (Ok Table)
     (cond (kind == 6) (Ok Pulses)
-    (Err KindNotAllowed)))))
+    (Err KindNotAllowed))))))
 
 -- an answer for a payload that is so many bytes long
 abbrev pub long : {A : Type 0} → ℕ → List ℕ → A → Result A PayloadFault
@@ -41,10 +43,19 @@ record_of_front kind payload =
     (cond (kind == 3) (long 0 payload SealRecord)
     (Err KindNotAllowed)))
 
--- what a record of the body asks for: to enter a formula, or to hold that a formula is false at a position of a run
+-- what a record of the body asks for: to enter a formula, to hold a line, or to hold that a formula is false at a position of a run
 pub data Request : Type 0 where
   form_request : declared.Form → Request
+  line_request : model.Line → Request
   refute_request : Claim → Run → Request
+
+-- the place that a field gives: 65,535 stands for an empty one
+abbrev pub place_of : ℕ → Option ℕ
+place_of n = cond (n == 65535) None (Some n)
+
+-- a rule, a formula and two places in two bytes each
+abbrev pub line_in : List ℕ → model.Line
+line_in payload = record { rule = word payload 0; formula = word payload 2; first = place_of (word payload 4); second = place_of (word payload 6) }
 
 -- the numbers of a formula and of a position in two bytes each
 abbrev pub claim_in : List ℕ → Claim
@@ -61,10 +72,11 @@ refute_in check run payload =
     cond (nat_lt (length payload) 4) (Err WrongLength)
     (passed (check (drop 4 payload)) (refute_request (claim_in payload) (run (drop 4 payload))))
 
--- in the body: 1 a formula, 5 a refutation by a table, 6 one by pulses
+-- in the body: 1 a formula, 4 a line, 5 a refutation by a table, 6 one by pulses
 abbrev pub record_of_body : ℕ → List ℕ → Result Request PayloadFault
 record_of_body kind payload =
     cond (kind == 1) (long 5 payload (form_request (form_in payload)))
+    (cond (kind == 4) (long 8 payload (line_request (line_in payload)))
     (cond (kind == 5) (refute_in table_check table_run payload)
     (cond (kind == 6) (refute_in pulse_check pulse_run payload)
-    (Err KindNotAllowed)))
+    (Err KindNotAllowed))))

@@ -1,8 +1,10 @@
 -- What reading a file's front or body answers, and the case and the scratch words afterwards.
 use Rattle.std.specs.Prelude.{ℕ, ◌+◌, cond, List, length, drop, Ok, Err, Result, nat_lt}
 use Rattle.refusals.specs.declared.Refusal.{Refusal}
+use Rattle.calculus.specs.Pages.{Page}
 use Rattle.model.specs.Case as cases
 use Rattle.model.specs.Calls.{Outcome, form, assume}
+use Rattle.model.specs.Lines.{line}
 use Rattle.model.specs.Judging.{refute, refute_scratch}
 use Rattle.files.specs.declared.fault.RecordFault.TheVariants.{ShortHead, NoSeal}
 use Rattle.files.specs.declared.fault.PayloadFault.{PayloadFault}
@@ -12,7 +14,7 @@ use Rattle.files.specs.declared.fault.Fault.{Fault}
 use Rattle.files.specs.declared.payload.FrontRecord.{FrontRecord}
 use Rattle.files.specs.declared.payload.FrontRecord.TheVariants.{FormRecord, AssumeRecord, SealRecord}
 use Rattle.files.specs.Records.{Records, none, bad, more, records}
-use Rattle.files.specs.Payloads.{record_of_front, Request, form_request, refute_request, record_of_body}
+use Rattle.files.specs.Payloads.{record_of_front, Request, form_request, line_request, refute_request, record_of_body}
 
 -- what a record's call answered: a refusal ends the reading with a cause at the record's offset, else it goes on
 abbrev pub called : {R : Type 0} → ℕ → Result ℕ Refusal → (Cause → ℕ → R) → R → R
@@ -51,17 +53,20 @@ front_from c at (more kind payload rest) =
 unfoldable pub front : cases.Case → List ℕ → Reading
 front c bytes = front_from c 0 (records bytes)
 
--- a request's call: its answer, and the case and the scratch words afterwards
+-- a request's call, a line's under a page: its answer, and the case and the scratch words afterwards
 pub record Asked : Type 0 where
   pub answer : Result ℕ Refusal
   pub after : cases.Case
   pub scratch : List ℕ
 
-abbrev pub asked : cases.Case → List ℕ → Request → Asked
-asked c words (form_request f) =
+abbrev pub asked : Page → cases.Case → List ℕ → Request → Asked
+asked page c words (form_request f) =
     let o : Outcome ℕ = form c f.kind f.left f.right in
     record { answer = o.answer; after = o.after; scratch = words }
-asked c words (refute_request claim r) =
+asked page c words (line_request l) =
+    let o : Outcome ℕ = line c page l in
+    record { answer = o.answer; after = o.after; scratch = words }
+asked page c words (refute_request claim r) =
     let o : Outcome ℕ = refute c r claim.formula claim.position (length words) in
     record { answer = o.answer; after = o.after; scratch = refute_scratch c r claim.formula claim.position words }
 
@@ -80,19 +85,19 @@ abbrev pub body_called : ℕ → Asked → (cases.Case → List ℕ → BodyRead
 body_called at x go = called at x.answer (body_stopped x.after x.scratch) (go x.after x.scratch)
 
 -- one record of the body
-abbrev pub body_step : cases.Case → List ℕ → ℕ → Result Request PayloadFault → (cases.Case → List ℕ → BodyReading) → BodyReading
-body_step c words at (Err e) go = body_stopped c words (Payload e) at
-body_step c words at (Ok x) go = body_called at (asked c words x) go
+abbrev pub body_step : Page → cases.Case → List ℕ → ℕ → Result Request PayloadFault → (cases.Case → List ℕ → BodyReading) → BodyReading
+body_step page c words at (Err e) go = body_stopped c words (Payload e) at
+body_step page c words at (Ok x) go = body_called at (asked page c words x) go
 
 -- the body: up to the end of the file
-abbrev pub body_from : cases.Case → List ℕ → ℕ → Records → BodyReading
-body_from c words at none = record { answer = Ok tt; after = c; scratch = words }
-body_from c words at (bad e) = body_stopped c words (Record e) at
-body_from c words at (more kind payload rest) =
-    body_step c words at (record_of_body kind payload) (λ d left. body_from d left (at + 4 + length payload) rest)
+abbrev pub body_from : Page → cases.Case → List ℕ → ℕ → Records → BodyReading
+body_from page c words at none = record { answer = Ok tt; after = c; scratch = words }
+body_from page c words at (bad e) = body_stopped c words (Record e) at
+body_from page c words at (more kind payload rest) =
+    body_step page c words at (record_of_body kind payload) (λ d left. body_from page d left (at + 4 + length payload) rest)
 
 -- from a start offset, which must not lie past the end
-unfoldable pub body : cases.Case → ℕ → List ℕ → List ℕ → BodyReading
-body c start words bytes =
+unfoldable pub body : Page → cases.Case → ℕ → List ℕ → List ℕ → BodyReading
+body page c start words bytes =
     cond (nat_lt (length bytes) start) (body_stopped c words (Record ShortHead) start)
-    (body_from c words start (records (drop start bytes)))
+    (body_from page c words start (records (drop start bytes)))

@@ -2,12 +2,13 @@
 use Rattle.std.specs.Prelude.{Ok, Err, Result}
 use Rattle.runs.specs.Meanings.{table_meaning, pulse_meaning}
 use Rattle.files.specs.declared.payload.BodyRecord.{BodyRecord}
-use Rattle.files.specs.declared.payload.BodyRecord.TheVariants.{FormRecord, TableRecord, PulseRecord}
-use Rattle.files.specs.Payloads.{Request, form_request, refute_request}
+use Rattle.files.specs.declared.payload.BodyRecord.TheVariants.{FormRecord, LineRecord, TableRecord, PulseRecord}
+use Rattle.files.specs.Payloads.{Request, form_request, line_request, refute_request}
 
 -- a run of the program stands for the run that it means
 abbrev pub request_of : BodyRecord → Request
 request_of (FormRecord form) = form_request form
+request_of (LineRecord line) = line_request line
 request_of (TableRecord claim run) = refute_request claim (table_meaning run)
 request_of (PulseRecord claim run) = refute_request claim (pulse_meaning run)
 

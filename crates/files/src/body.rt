@@ -9,39 +9,46 @@ use crate::payload::BodyRecord;
 use crate::record::Records;
 use cases::SealedCase;
 use refusals::Refusal;
+use rules::RulePage;
 
-// Makes the calls that the records from a start offset on ask for, up to the end of the file.
+// Makes the calls that the records from a start offset on ask for, up to the end of the file. Lines are entered under a
+// page of rules.
 #[tactic(auto, using(crate::proofs::Left::body_left))]
-pub fn read_body(
+pub fn read_body<P: RulePage>(
     case: &mut SealedCase,
+    page: &P,
     file: &[u8],
     start: usize,
     scratch: &mut [u64],
 ) -> Result<(), Fault>
-    ensures answer { result ≡ (body (sealed case.old) start scratch.old file.now).answer }
-    ensures after { sealed case.new ≡ (body (sealed case.old) start scratch.old file.now).after }
-    ensures words { scratch.new ≡ (body (sealed case.old) start scratch.old file.now).scratch }
+    ensures answer { result ≡ (body (P.RulePage.meaning page.now) (sealed case.old) start scratch.old file.now).answer }
+    ensures after { sealed case.new ≡ (body (P.RulePage.meaning page.now) (sealed case.old) start scratch.old file.now).after }
+    ensures words { scratch.new ≡ (body (P.RulePage.meaning page.now) (sealed case.old) start scratch.old file.now).scratch }
 {
     for record in Records::new(file, start) {
         let record = record?;
         let request = at(record.offset, BodyRecord::try_from(record))?;
-        at(record.offset, make_call(case, request, scratch))?;
+        at(record.offset, make_call(case, page, request, scratch))?;
     }
     Ok(())
 }
 
 // Makes the call that a record asks for, and answers its number, which reading needs no more.
-fn make_call(
+fn make_call<P: RulePage>(
     case: &mut SealedCase,
+    page: &P,
     request: BodyRecord<'_>,
     scratch: &mut [u64],
 ) -> Result<u16, Refusal>
-    ensures answer { result ≡ (asked (sealed case.old) scratch.old (request_of request.entry)).answer }
-    ensures after { sealed case.new ≡ (asked (sealed case.old) scratch.old (request_of request.entry)).after }
-    ensures words { scratch.new ≡ (asked (sealed case.old) scratch.old (request_of request.entry)).scratch }
+    ensures answer { result ≡ (asked (P.RulePage.meaning page.now) (sealed case.old) scratch.old (request_of request.entry)).answer }
+    ensures after { sealed case.new ≡ (asked (P.RulePage.meaning page.now) (sealed case.old) scratch.old (request_of request.entry)).after }
+    ensures words { scratch.new ≡ (asked (P.RulePage.meaning page.now) (sealed case.old) scratch.old (request_of request.entry)).scratch }
 {
     match request {
         BodyRecord::FormRecord(form) => case.form(form.kind, form.left, form.right),
+        BodyRecord::LineRecord(line) => {
+            case.line(page, line.rule, line.formula, line.first, line.second)
+        }
         BodyRecord::TableRecord(claim, table) => {
             case.refute(&table, claim.formula, claim.position, scratch)
         }

@@ -3,13 +3,17 @@ ghost use Rattle.std.specs.Prelude.{◌≡◌};
 ghost use Rattle.runs.specs.Bytes.{word};
 ghost use Rattle.runs.specs.Pulses.{pulse_check, pulse_run};
 ghost use Rattle.runs.specs.Tables.{table_check, table_run};
-ghost use Rattle.files.specs.Payloads.{long, form_in, claim_in, kind_of, record_of_front, refute_in, record_of_body};
+ghost use Rattle.files.specs.Payloads.{long, form_in, line_in, place_of, claim_in, kind_of, record_of_front, refute_in, record_of_body};
 ghost use Rattle.files.specs.Requests.{requested};
 ghost use Rattle.files.specs.declared.payload.FrontRecord.TheVariants.{AssumeRecord, SealRecord};
 
 use crate::fault::PayloadFault;
 use crate::record::Record;
+use model::Line;
 use runs::{PulseRun, TableRun};
+
+// In a field for a place: no place.
+const EMPTY_PLACE: u16 = 65_535;
 
 // The kinds of records.
 #[derive(Clone, Copy)]
@@ -17,6 +21,7 @@ enum RecordKind {
     Form,
     Assume,
     Seal,
+    Line,
     Table,
     Pulses,
 }
@@ -48,6 +53,7 @@ pub struct Claim {
 #[derive(Clone, Copy)]
 pub enum BodyRecord<'a> {
     FormRecord(Form),
+    LineRecord(Line),
     TableRecord(Claim, TableRun<'a>),
     PulseRecord(Claim, PulseRun<'a>),
 }
@@ -62,6 +68,7 @@ impl TryFrom<u16> for RecordKind {
             1 => Ok(RecordKind::Form),
             2 => Ok(RecordKind::Assume),
             3 => Ok(RecordKind::Seal),
+            4 => Ok(RecordKind::Line),
             5 => Ok(RecordKind::Table),
             6 => Ok(RecordKind::Pulses),
             _ => Err(PayloadFault::KindNotAllowed),
@@ -80,7 +87,9 @@ impl TryFrom<Record<'_>> for FrontRecord {
             RecordKind::Form => Ok(FrontRecord::FormRecord(form_record(record.payload)?)),
             RecordKind::Assume => assume_record(record.payload),
             RecordKind::Seal => seal_record(record.payload),
-            RecordKind::Table | RecordKind::Pulses => Err(PayloadFault::KindNotAllowed),
+            RecordKind::Line | RecordKind::Table | RecordKind::Pulses => {
+                Err(PayloadFault::KindNotAllowed)
+            }
         }
     }
 }
@@ -94,6 +103,7 @@ impl<'a> TryFrom<Record<'a>> for BodyRecord<'a> {
     fn try_from(record: Record<'a>) -> Result<BodyRecord<'a>, PayloadFault> {
         match RecordKind::try_from(record.kind)? {
             RecordKind::Form => Ok(BodyRecord::FormRecord(form_record(record.payload)?)),
+            RecordKind::Line => Ok(BodyRecord::LineRecord(line_record(record.payload)?)),
             RecordKind::Table => table_record(record.payload),
             RecordKind::Pulses => pulse_record(record.payload),
             RecordKind::Assume | RecordKind::Seal => Err(PayloadFault::KindNotAllowed),
@@ -146,6 +156,42 @@ fn seal_record(payload: &[u8]) -> Result<FrontRecord, PayloadFault>
         return Err(PayloadFault::WrongLength);
     };
     Ok(FrontRecord::SealRecord)
+}
+
+// A rule, a formula and two places, in two bytes each.
+fn line_record(payload: &[u8]) -> Result<Line, PayloadFault>
+    ensures { result ≡ long 8 payload.now (line_in payload.now) }
+{
+    let [
+        rule_low,
+        rule_high,
+        formula_low,
+        formula_high,
+        first_low,
+        first_high,
+        second_low,
+        second_high,
+    ] = payload
+    else {
+        return Err(PayloadFault::WrongLength);
+    };
+    Ok(Line {
+        rule: u16::from_le_bytes([*rule_low, *rule_high]),
+        formula: u16::from_le_bytes([*formula_low, *formula_high]),
+        first: place(u16::from_le_bytes([*first_low, *first_high])),
+        second: place(u16::from_le_bytes([*second_low, *second_high])),
+    })
+}
+
+// The place that a field gives, if any.
+fn place(field: u16) -> Option<u16>
+    ensures { result ≡ place_of field }
+{
+    if field == EMPTY_PLACE {
+        None
+    } else {
+        Some(field)
+    }
 }
 
 // A claim, and a run that tells each position's atoms.

@@ -2,4 +2,4 @@
 use Rattle.files.proofs.body.make_call.Goals as goal
 
 pub returns-in-PulseRecord : goal.returns-in-PulseRecord
-returns-in-PulseRecord c = rw (c.in-PulseRecord.is) c.refute-in-PulseRecord.ensures
+returns-in-PulseRecord g c = rw (c.in-PulseRecord.is) c.refute-in-PulseRecord.ensures

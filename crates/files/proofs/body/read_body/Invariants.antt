@@ -6,7 +6,7 @@ use Rattle.files.specs.Reading.{body, body_from}
 use Rattle.files.proofs.body.read_body.Given as goal
 
 abbrev pub invariant-loop-record : goal.invariant-loop-record
-invariant-loop-record l = record {
+invariant-loop-record g l = record {
   file : l.record-iterator.file.now ≡ l.file;
-  rest : body (sealed l.initial.case) l.start l.initial.scratch l.file ≡ body_from (sealed l.case) l.scratch l.record-iterator.offset (left l.record-iterator);
+  rest : body (g.P.RulePage.meaning l.page) (sealed l.initial.case) l.start l.initial.scratch l.file ≡ body_from (g.P.RulePage.meaning l.page) (sealed l.case) l.scratch l.record-iterator.offset (left l.record-iterator);
 }
