@@ -1,5 +1,5 @@
 -- A listing of a case within its limits has at most 20,480 bytes.
-use Rattle.std.proofs.Common.{◌≡◌, ℕ, zero, suc, ◌*◌, ◌^◌, ◌<◌, ◌≤◌, Bool, List, [], ◌∷◌, length, ltb, Some, None, Ok, Err, Option, Result, refl, ap, arith, length-append}
+use Rattle.std.proofs.Common.{◌≡◌, ℕ, zero, suc, ◌*◌, ◌^◌, ◌<◌, ◌≤◌, Bool, List, [], ◌∷◌, length, ltb, Some, None, Ok, Err, Option, Result, refl, arith, length-append}
 use Rattle.std.specs.List.{position}
 use Rattle.std.proofs.lemmas.Bool.{cond_both, ltb-true}
 use Rattle.std.proofs.lemmas.List.Quantifiers.{position-Some}
@@ -83,7 +83,6 @@ module _ (c : Case) (formulas : length c.formulas ≤ 10 ^ 4) (lines : length c.
 
 pub always_room : AlwaysRoom 20480
 always_room c e within fits =
-    let lines : length c.lines ≡ 0 = ap length within.no_lines in
     let first = counts_short (counts_of c) (omega arith) (omega arith) (omega arith) (omega arith) in
     let standings = standings_short c (omega arith) (omega arith) (omega arith) (length c.formulas) in
     let last = ending_short e fits in
