@@ -11,7 +11,7 @@ use Rattle.files.proofs.Extents.{FrontWithin, BodyWithin, front_within, body_wit
 use Rattle.listing.specs.declared.unread.Unread.TheVariants.{TooLong}
 use Rattle.listing.specs.Room.{Fits64}
 use Rattle.listing.proofs.Room.{always_room}
-use Rattle.checker.specs.Checked.{Checked, ended, from_front, checked}
+use Rattle.checker.specs.Checked.{program_page, Checked, ended, from_front, checked}
 use Rattle.checker.specs.Promises.{ListingsFit}
 use Rattle.checker.proofs.Listed.{listed_after_history}
 
@@ -21,7 +21,7 @@ ended_fits n small (Ok done) within = omega arith
 ended_fits n small (Err f) within = omega arith
 
 from_front_fits : (words bytes : List ℕ) → length bytes ≤ 16384 → (r : Result ℕ Fault) (c : Case) → FrontWithin (length bytes) r → Fits64 (from_front words bytes r c).ending
-from_front_fits words bytes small (Ok behind) c within = ended_fits (length bytes) small (body c behind words bytes).answer (body_within c behind words bytes within)
+from_front_fits words bytes small (Ok behind) c within = ended_fits (length bytes) small (body program_page c behind words bytes).answer (body_within program_page c behind words bytes within)
 from_front_fits words bytes small (Err f) c within = omega arith
 
 checked_fits : (c : Case) (words bytes : List ℕ) → Fits64 (checked c words bytes).ending
@@ -35,5 +35,5 @@ pub listings_fit : ListingsFit 20480
 listings_fit h words bytes =
     let later = listed_after_history h words bytes in
     always_room (checked (after h) words bytes).case (checked (after h) words bytes).ending
-    (subst Limits (sym later.1) (limits_kept sealed_stage later.0))
+    (subst Limits (sym later.2) (limits_kept sealed_stage later.0))
     (checked_fits (after h) words bytes)

@@ -1,3 +1,4 @@
 pub mod Checking
 pub mod Listed
+pub mod Promised
 pub mod Fitting

@@ -1,59 +1,53 @@
--- The case that is listed is that of a history.
-use Rattle.std.proofs.Common.{◌≡◌, ℕ, true, ltb, leb, List, length, Ok, Err, Result, sym, refl, ap, subst, inl, inr}
-use Rattle.std.proofs.lemmas.Bool.{cases_lt, cond-true, cond_both, lt-ltb}
-use Rattle.model.specs.Case.{Case}
-use Rattle.model.specs.History.{Stage, open_stage, sealed_stage, Call, History, then, then_seal, after_call, after, Leads, no_more, refused_call, answered_call}
+-- The case that is listed is that of the history that the file makes.
+use Rattle.std.proofs.Common.{◌≡◌, ℕ, ◌≤◌, leb, List, length, replicate, Ok, Err, Result, sym, refl, ap, ◌∙◌, subst}
+use Rattle.std.proofs.lemmas.List.{length-replicate}
+use Rattle.std.proofs.lemmas.Bool.{cond_both, leb-true, leb-false}
+use Rattle.model.specs.Case.{Case, empty}
+use Rattle.model.specs.History.{History, open_stage, sealed_stage, new, then_seal, after}
+use Rattle.model.specs.Making.{Makes}
+use Rattle.model.proofs.Making.{made}
 use Rattle.files.specs.declared.fault.Fault.{Fault}
-use Rattle.files.specs.Reading.{BodyReading, front, body}
+use Rattle.files.specs.Records.{records}
+use Rattle.files.specs.Reading.{front}
+use Rattle.files.specs.CallsMade.{front_calls}
 use Rattle.files.proofs.CallsMade.{front_makes_calls, body_makes_calls}
-use Rattle.files.proofs.LastRows.{body_leaves_last_rows}
-use Rattle.files.proofs.ReadBack.{records_read_back}
-use Rattle.files.proofs.Scratch.{body_keeps_scratch_length}
+use Rattle.files.proofs.Extents.{FrontWithin, front_within}
+use Rattle.listing.specs.Listing.{listing}
 use Rattle.listing.specs.declared.unread.Unread.TheVariants.{TooLong}
-use Rattle.checker.specs.Checked.{Checked, from_front, checked}
-use Rattle.checker.specs.Promises.{ListedAfterHistory, Promises}
+use Rattle.checker.specs.Checked.{program_page, Checked, from_front, checked, file_listing}
+use Rattle.checker.specs.FileHistory.{FileHistory, file_too_long, front_refused, front_and_body}
+use Rattle.checker.specs.Promises.{ListedAfterHistory, ListsHistory}
 
--- a case that some history at a stage ends in
-abbrev Ends : Stage → Case → Type 0
-Ends s c = (h : History s) × (c ≡ after h)
+module _ (h : History open_stage) (words bytes : List ℕ) where
+  -- the file makes a history that ends in a case
+  abbrev Ends : Case → Type 0
+  Ends c = (later : History sealed_stage) × FileHistory h (length words) bytes later × (c ≡ after later)
 
--- calls lead from one history to another
-led : (s : Stage) {c d : Case} {xs : List (Call s)} → Leads s c xs d → Ends s c → Ends s d
-led s no_more e = e
-led s (refused_call {x = x} r is) e = (then e.0 x, ap (λ (b : Case). after_call b x) e.1)
-led s (answered_call {x = x} answered more) e = led s more (then e.0 x, ap (λ (b : Case). after_call b x) e.1)
+  module _ (short : length bytes ≤ 16384) (g : History open_stage) (makes : Makes open_stage h (front_calls (records bytes)) g) where
+    from_front_ends : (r : Result ℕ Fault) → FrontWithin (length bytes) r → (front (after h) bytes).answer ≡ r → Ends (from_front words bytes r (after g)).case
+    from_front_ends (Ok start) within is =
+        let (later, more, same) = made sealed_stage (then_seal g) (body_makes_calls program_page (after g) start words bytes within) in
+        (later, front_and_body short g makes start is later more, same)
+    from_front_ends (Err e) within is = (then_seal g, front_refused short g makes e is, refl)
 
--- a body that starts past the end leaves the case as it is
-body_past : (c : Case) (start : ℕ) (words bytes : List ℕ) → ltb (length bytes) start ≡ true → (body c start words bytes).after ≡ c
-unfolding body
-body_past c start words bytes past = ap (λ (r : BodyReading). r.after) (cond-true (ltb (length bytes) start) _ _ past)
-
-body_ends : (c : Case) (start : ℕ) (words bytes : List ℕ) → Ends sealed_stage c → Ends sealed_stage (body c start words bytes).after
-body_ends c start words bytes e = elim (cases_lt (length bytes) start) [
-  | inl past ↦ subst (Ends sealed_stage) (sym (body_past c start words bytes (lt-ltb (length bytes) start past))) e
-  | inr within ↦ led sealed_stage (body_makes_calls c start words bytes within) e
-]
-
-sealed_ends : (c : Case) → Ends open_stage c → Ends sealed_stage c
-sealed_ends c e = (then_seal e.0, e.1)
-
-from_front_ends : (words bytes : List ℕ) (r : Result ℕ Fault) (c : Case) → Ends open_stage c → Ends sealed_stage (from_front words bytes r c).case
-from_front_ends words bytes (Ok behind) c e = body_ends c behind words bytes (sealed_ends c e)
-from_front_ends words bytes (Err f) c e = sealed_ends c e
+  read_ends : length bytes ≤ 16384 → Ends (from_front words bytes (front (after h) bytes).answer (front (after h) bytes).after).case
+  read_ends short =
+      let (g, makes, same) = made open_stage h (front_makes_calls (after h) bytes) in
+      subst (λ (c : Case). Ends (from_front words bytes (front (after h) bytes).answer c).case) (sym same)
+      (from_front_ends short g makes (front (after h) bytes).answer (front_within (after h) bytes) refl)
 
 pub listed_after_history : ListedAfterHistory
 unfolding checked
 listed_after_history h words bytes =
-    cond_both (leb (length bytes) 16384) _ (record { case = after h; ending = Err TooLong; scratch = words }) (λ (x : Checked). Ends sealed_stage x.case)
-    (λ _. from_front_ends words bytes (front (after h) bytes).answer (front (after h) bytes).after (led open_stage (front_makes_calls (after h) bytes) (h, refl)))
-    (λ _. sealed_ends (after h) (h, refl))
+    cond_both (leb (length bytes) 16384) _ (record { case = after h; ending = Err TooLong; scratch = words }) (λ (x : Checked). Ends h words bytes x.case)
+    (λ short. read_ends h words bytes (leb-true (length bytes) 16384 short))
+    (λ long. (then_seal h, file_too_long (leb-false (length bytes) 16384 long), refl))
 
-pub promises : Promises
-promises = record {
-  records_read_back = records_read_back;
-  front_makes_calls = front_makes_calls;
-  body_makes_calls = body_makes_calls;
-  body_keeps_scratch_length = body_keeps_scratch_length;
-  body_leaves_last_rows = body_leaves_last_rows;
-  listed_after_history = listed_after_history;
-}
+-- a listing is that of the history that the file makes behind a new case
+pub lists_history : (n : ℕ) (bytes text : List ℕ) → text ≡ file_listing empty (replicate n 0) bytes → ListsHistory n bytes text
+lists_history n bytes text is =
+    let (later, makes, same) = listed_after_history new (replicate n 0) bytes in (
+      later,
+      subst (λ (k : ℕ). FileHistory new k bytes later) (length-replicate n 0) makes,
+      is ∙ ap (λ c. listing c (checked empty (replicate n 0) bytes).ending) same,
+    )

@@ -1,11 +1,19 @@
 -- What a file comes to: the case that its records make, how its reading ended, and the scratch words afterwards.
 use Rattle.std.specs.Prelude.{ℕ, cond, List, length, Ok, Err, Result, nat_le}
+use Rattle.calculus.specs.Pages.{Page}
+use Rattle.calculus.specs.Published.{published}
+use Rattle.calculus.specs.Derived.{derived}
+use Rattle.calculus.proofs.Lawful.{published_lawful, derived_lawful}
 use Rattle.model.specs.Case.{Case}
 use Rattle.files.specs.declared.fault.Fault.{Fault}
 use Rattle.files.specs.Reading.{BodyReading, front, body}
 use Rattle.listing.specs.declared.unread.Unread.{Unread}
 use Rattle.listing.specs.declared.unread.Unread.TheVariants.{TooLong, Refused}
 use Rattle.listing.specs.Listing.{listing}
+
+-- the page that lines are entered under: the derived rules over the published page
+abbrev pub program_page : Page
+program_page = record { verdict = derived published; lawful = derived_lawful (record { verdict = published; lawful = published_lawful }) }
 
 pub record Checked : Type 0 where
   pub case : Case
@@ -20,7 +28,7 @@ ended n (Err e) = Err (Refused e)
 -- what the front answered, and the case then: the body is read only behind a front that was read
 abbrev pub from_front : List ℕ → List ℕ → Result ℕ Fault → Case → Checked
 from_front words bytes (Ok behind) c =
-    let read : BodyReading = body c behind words bytes in
+    let read : BodyReading = body program_page c behind words bytes in
     record { case = read.after; ending = ended (length bytes) read.answer; scratch = read.scratch }
 from_front words bytes (Err e) c = record { case = c; ending = Err (Refused e); scratch = words }
 

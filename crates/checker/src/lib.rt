@@ -7,11 +7,12 @@ ghost use Rattle.model.specs.Promises.{ScratchSuffices};
 ghost use Rattle.cases.specs.Model.{opened, sealed};
 ghost use Rattle.listing.specs.Written.{written_answer, written_after};
 ghost use Rattle.checker.specs.Checked.{checked, from_front, file_listing};
-ghost use Rattle.checker.specs.Promises.{ListingsFit, Promises};
+ghost use Rattle.checker.specs.Promises.{ListsHistory, ListingsFit, Promises};
 
 use cases::{OpenCase, SealedCase};
 use files::{Fault, read_body, read_front};
 use listing::{LISTING_MOST, ListingRefusal, Unread, write_listing};
+use rules::{DerivedPage, PublishedPage};
 use std::alloc::{AllocError, Global};
 
 // The most bytes that a file has.
@@ -20,9 +21,14 @@ pub const FILE_MOST: usize = 16_384;
 // With so many scratch words no refutation is refused for want of them: four for each of 1,024 formulas.
 pub const SCRATCH_MOST: usize = 4096;
 
+// The page that lines are entered under: the derived rules over the published page.
+const PAGE: DerivedPage<PublishedPage> = DerivedPage {
+    below: PublishedPage,
+};
+
 // Reads a file into an open case, with scratch words for its refutations, and writes the listing into a caller's buffer,
 // since nothing is allocated after a case is made: its length is answered.
-#[tactic(auto, using(crate::proofs::Listed::promises, crate::proofs::Fitting::listings_fit))]
+#[tactic(auto, using(crate::proofs::Promised::promises, crate::proofs::Fitting::listings_fit))]
 pub fn list_file(
     case: OpenCase,
     file: &[u8],
@@ -40,9 +46,13 @@ pub fn list_file(
     write_listing(&case, ending, buffer)
 }
 
-// The listing of a file that is read into a new case.
+// The listing of a file that is read into a new case. It is that of the history that the file makes: its front's calls,
+// the seal, its body's calls.
+#[tactic(auto, using(crate::proofs::Promised::promises))]
 pub fn listing_of(heap: Global, file: &[u8]) -> Result<Vec<u8>, AllocError>
-    ensures { IfOk result (λ text. text.items ≡ file_listing empty (replicate SCRATCH_MOST 0) file.now) }
+    ensures text { IfOk result (λ text. text.items ≡ file_listing empty (replicate SCRATCH_MOST 0) file.now) }
+    ensures history { IfOk result (λ text. ListsHistory SCRATCH_MOST file.now text.items) }
+    ensures promised { Promises }
 {
     let mut scratch = vec![in heap; 0; SCRATCH_MOST]?;
     let mut buffer = vec![in heap; 0; LISTING_MOST]?;
@@ -86,6 +96,6 @@ fn read_behind(
     ensures words { scratch.new ≡ (from_front scratch.old file.now front (sealed case.old)).scratch }
 {
     let start = front?;
-    read_body(case, file, start, scratch)?;
+    read_body(case, &PAGE, file, start, scratch)?;
     Ok(file.len())
 }

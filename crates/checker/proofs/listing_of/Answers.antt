@@ -9,6 +9,7 @@ use Rattle.listing.specs.declared.refusal.ListingRefusal.{ListingRefusal}
 use Rattle.listing.specs.Written.{written_answer, written_after}
 use Rattle.checker.specs.Checked.{file_listing}
 use Rattle.checker.proofs.Fitting.{listings_fit}
+use Rattle.checker.proofs.Listed.{lists_history}
 use Rattle.checker.proofs.listing_of.Goals as goal
 
 -- a new case's listing fits
@@ -30,8 +31,8 @@ module _ (text buffer rest : List ℕ) (room : length text ≤ length buffer) wh
 pub unreachable-requires : goal.unreachable-requires
 unreachable-requires c = c.in_default.not-Ok _ (c.list_file.ensures.answer ∙ answered _ c.in_ok-case.ensures.empty _ c.args.file.now _ (omega (arith, ap length c.deref_mut.ensures.value, c.in_ok-buffer.ensures.len)))
 
-pub returns : goal.returns
-returns c =
+pub returns-clause-text : goal.returns-clause-text
+returns-clause-text c =
     let words = c.deref_mut.ensures.value ∙ c.in_ok-scratch.ensures.items_if_clones_equal (λ y e. e) in
     let text = file_listing (opened c.in_ok-case.case) c.deref_mut.result.now c.args.file.now in
     let buffer = c.deref_mut-2.result.now in
@@ -45,3 +46,6 @@ returns c =
     ∙ (λ i. take (end i) (take (all i) (c.list_file.ensures.after i ++ rest)))
     ∙ cut text buffer rest (fits _ c.in_ok-case.ensures.empty _ c.args.file.now buffer long)
     ∙ ap₂ (λ (d : Case) (ws : List ℕ). file_listing d ws c.args.file.now) c.in_ok-case.ensures.empty words
+
+pub returns-clause-history : goal.returns-clause-history
+returns-clause-history c = lists_history 4096 c.args.file.now _ (returns-clause-text c)
