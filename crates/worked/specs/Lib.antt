@@ -1,0 +1,3 @@
+pub mod Example
+pub mod Asking
+pub mod Table
