@@ -1,6 +1,6 @@
 // The two stages of a case: it takes assumptions while it is open, and sealing it ends that.
 // Edits of this program that do not compile, as they must not: `sealed.assume(0)` and `open.assume(0)` behind the seal,
-// and `refute` on an open case.
+// and `line` and `refute` on an open case.
 #![tactic(auto)]
 
 use cases::OpenCase;

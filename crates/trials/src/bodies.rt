@@ -3,6 +3,7 @@ use crate::samples::{carry, refuted};
 use cases::SealedCase;
 use files::{Cause, Fault, PayloadFault, read_body};
 use refusals::Refusal;
+use rules::PublishedPage;
 use std::alloc::Global;
 use std::test::Fail;
 
@@ -34,7 +35,7 @@ fn read_three(
     body.extend_from_slice(&HELD)?;
     body.extend_from_slice(third)?;
     let mut scratch = [9; 25];
-    let answer = read_body(case, &body, 0, &mut scratch);
+    let answer = read_body(case, &PublishedPage, &body, 0, &mut scratch);
     Ok((answer, scratch))
 }
 

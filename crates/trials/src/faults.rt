@@ -2,6 +2,7 @@
 use cases::{OpenCase, SealedCase};
 use files::{Cause, Fault, RecordFault, read_body};
 use refusals::Refusal;
+use rules::PublishedPage;
 use std::alloc::Global;
 use std::test::Fail;
 
@@ -9,18 +10,27 @@ use std::test::Fail;
 #[test]
 fn bodies_start_within_the_file(rt: HostRuntime) -> Result<(), Fail> {
     let mut case = OpenCase::new(rt.alloc())?.seal();
-    assert_eq!(rt; read_body(&mut case, b"abc", 3, &mut []), Ok(()));
+    assert_eq!(rt;
+        read_body(&mut case, &PublishedPage, b"abc", 3, &mut []),
+        Ok(())
+    );
     let short = Cause::Record(RecordFault::ShortHead);
     let past = Fault {
         cause: short,
         offset: 4,
     };
-    assert_eq!(rt; read_body(&mut case, b"abc", 4, &mut []), Err(past));
+    assert_eq!(rt;
+        read_body(&mut case, &PublishedPage, b"abc", 4, &mut []),
+        Err(past)
+    );
     let at_zero = Fault {
         cause: short,
         offset: 0,
     };
-    assert_eq!(rt; read_body(&mut case, b"abc", 0, &mut []), Err(at_zero));
+    assert_eq!(rt;
+        read_body(&mut case, &PublishedPage, b"abc", 0, &mut []),
+        Err(at_zero)
+    );
     Ok(())
 }
 
@@ -51,7 +61,7 @@ fn tables_tell_which_assumption_is_false(rt: HostRuntime) -> Result<(), Fail> {
         0, 0, 0, 1, 0, 0, 0, 3, 0, 0, 0, 1, 0, 0, 0,
     ];
     let mut case = atoms(rt.alloc())?;
-    let answer = read_body(&mut case, &file, 4, &mut [0; 16]);
+    let answer = read_body(&mut case, &PublishedPage, &file, 4, &mut [0; 16]);
     assert_eq!(rt; answer, Err(second_at_2()));
     Ok(())
 }
@@ -64,7 +74,7 @@ fn pulses_tell_which_assumption_is_false(rt: HostRuntime) -> Result<(), Fail> {
         0, 1, 0, 0, 0, 4, 0, 2, 0,
     ];
     let mut case = atoms(rt.alloc())?;
-    let answer = read_body(&mut case, &file, 4, &mut [0; 16]);
+    let answer = read_body(&mut case, &PublishedPage, &file, 4, &mut [0; 16]);
     assert_eq!(rt; answer, Err(second_at_2()));
     Ok(())
 }

@@ -1,5 +1,5 @@
-// Refutation records of a file: kind 5 has a table, kind 6 has pulses. Behind the head of four bytes each has the
-// formula and the position, and then the run.
+// Line and refutation records of a file. Behind the head of four bytes kind 4 has the rule, the formula and two places.
+// Kind 5 has a table, kind 6 has pulses: each has the formula and the position, and then the run.
 use crate::samples::CARRY;
 use checker::listing_of;
 use std::alloc::Global;
@@ -89,12 +89,75 @@ fn payloads_are_looked_at_in_order(rt: HostRuntime) -> Result<(), Fail> {
     Ok(())
 }
 
+// v0 → v0 as a tautology, v0 → ○v0 as the assumption, and v0 → □v0 by induction from these.
 #[test]
-fn kind_4_is_kept(rt: HostRuntime) -> Result<(), Fail> {
+fn lines_are_held(rt: HostRuntime) -> Result<(), Fail> {
+    let body = [
+        8, 0, 4, 0, 1, 0, 3, 0, 255, 255, 255, 255, 8, 0, 4, 0, 0, 0, 2, 0, 255, 255, 255, 255, 8,
+        0, 4, 0, 7, 0, 5, 0, 0, 0, 1, 0,
+    ];
+    let listing = listed(rt.alloc(), &body)?;
+    assert!(rt;
+        listing.as_slice()
+            == b"formulas 6 assumptions 1 lines 3 refutations 0\n2 derived 1\n3 derived 0\n5 derived 2\nread 100\n".as_slice()
+    );
+    Ok(())
+}
+
+// v0 → ○v0 as the assumption, twice, and v0 → □v0 from its first line by the derived rule 17.
+#[test]
+fn lines_are_held_by_derived_rules(rt: HostRuntime) -> Result<(), Fail> {
+    let body = [
+        8, 0, 4, 0, 0, 0, 2, 0, 255, 255, 255, 255, 8, 0, 4, 0, 0, 0, 2, 0, 255, 255, 255, 255, 8,
+        0, 4, 0, 17, 0, 5, 0, 0, 0, 255, 255,
+    ];
+    let listing = listed(rt.alloc(), &body)?;
+    assert!(rt;
+        listing.as_slice()
+            == b"formulas 6 assumptions 1 lines 3 refutations 0\n2 derived 0\n5 derived 2\nread 100\n".as_slice()
+    );
+    Ok(())
+}
+
+// A line has eight bytes, before the call: formula 6 is not entered.
+#[test]
+fn line_payloads_are_looked_at(rt: HostRuntime) -> Result<(), Fail> {
     let heap = rt.alloc();
-    assert!(rt; ends(heap, &[0, 0, 4, 0], b"refused 2 23 64\n")?);
-    let as_a_table = [12, 0, 4, 0, 4, 0, 0, 0, 0, 0, 1, 0, 0, 0, 0, 0];
-    assert!(rt; ends(heap, &as_a_table, b"refused 2 23 64\n")?);
+    let wrong_length = b"refused 2 24 64\n";
+    assert!(rt; ends(heap, &[0, 0, 4, 0], wrong_length)?);
+    let shorter = [7, 0, 4, 0, 1, 0, 6, 0, 255, 255, 255];
+    assert!(rt; ends(heap, &shorter, wrong_length)?);
+    let longer = [9, 0, 4, 0, 1, 0, 6, 0, 255, 255, 255, 255, 0];
+    assert!(rt; ends(heap, &longer, wrong_length)?);
+    Ok(())
+}
+
+// Formula 6 is not entered; no line is held yet, neither at place 0 nor at 65,534; and v0 → ○v0 is no tautology.
+#[test]
+fn the_case_refuses_lines(rt: HostRuntime) -> Result<(), Fail> {
+    let heap = rt.alloc();
+    let not_entered = [8, 0, 4, 0, 1, 0, 6, 0, 255, 255, 255, 255];
+    assert!(rt; ends(heap, &not_entered, b"refused 3 4 64\n")?);
+    let first = [8, 0, 4, 0, 1, 0, 3, 0, 0, 0, 255, 255];
+    assert!(rt; ends(heap, &first, b"refused 3 6 64\n")?);
+    let second = [8, 0, 4, 0, 1, 0, 3, 0, 255, 255, 254, 255];
+    assert!(rt; ends(heap, &second, b"refused 3 6 64\n")?);
+    let no_tautology = [8, 0, 4, 0, 1, 0, 2, 0, 255, 255, 255, 255];
+    assert!(rt; ends(heap, &no_tautology, b"refused 3 8 64\n")?);
+    Ok(())
+}
+
+// The formula is false → false, a tautology.
+#[test]
+fn the_front_takes_no_lines(rt: HostRuntime) -> Result<(), Fail> {
+    let file = [
+        5, 0, 1, 0, 0, 0, 0, 0, 0, 5, 0, 1, 0, 2, 0, 0, 0, 0, 8, 0, 4, 0, 1, 0, 1, 0, 255, 255,
+        255, 255, 0, 0, 3, 0,
+    ];
+    assert!(rt;
+        listing_of(rt.alloc(), &file)?.as_slice()
+            == b"formulas 2 assumptions 0 lines 0 refutations 0\nrefused 2 23 18\n".as_slice()
+    );
     Ok(())
 }
 
