@@ -189,7 +189,8 @@ gives_derived below (ind1 A) = ap admitted_if (is_step_refl (implies A (always A
 gives_derived below (som A B) = ap admitted_if (is_step_refl (implies A (eventually B)) (Some (implies A (next B))) None)
 gives_derived below (chain A B C) = ap admitted_if (is_step_refl (implies A (eventually C)) (Some (implies A (eventually B))) (Some (implies B (eventually C))))
 
-derived_numbers : {k : ℕ} {A : Formula} {B C : Option Formula} → DerivedGives k A B C → (16 ≤ k) × (k ≤ 19)
+-- the numbers of the derived rules
+pub derived_numbers : {k : ℕ} {A : Formula} {B C : Option Formula} → DerivedGives k A B C → (16 ≤ k) × (k ≤ 19)
 derived_numbers (alw A) = (omega arith, omega arith)
 derived_numbers (ind1 A) = (omega arith, omega arith)
 derived_numbers (som A B) = (omega arith, omega arith)

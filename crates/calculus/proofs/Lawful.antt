@@ -1,5 +1,5 @@
--- The laws of the two pages: what they admit holds on each run on which its premises do.
-use Rattle.std.proofs.Common.{◌≡◌, ℕ, Option, sym, subst}
+-- The laws of the rules and of the two pages: what they give or admit holds on each run on which its premises do.
+use Rattle.std.proofs.Common.{◌≡◌, ℕ, Option, sym, subst, inl, inr}
 use Rattle.logic.specs.Formula.{Formula}
 use Rattle.logic.specs.Run.{Run}
 use Rattle.logic.specs.Truth.{Throughout}
@@ -8,6 +8,7 @@ use Rattle.calculus.specs.Rules.{Gives, taut, ltl1, ltl2, ltl3, mp, nex, ind, De
 use Rattle.calculus.specs.Pages.{Given, Lawful, Page}
 use Rattle.calculus.specs.Published.{is_step, published}
 use Rattle.calculus.specs.Derived.{derived}
+use Rattle.calculus.specs.Promises.{RulesKeepLaw}
 use Rattle.calculus.proofs.Laws as laws
 use Rattle.calculus.proofs.Exact.{is_step_true, admitted_if_true, published_exact, derived_both}
 
@@ -25,6 +26,10 @@ derived_gives_lawful (alw A) r p q = laws.alw r A p
 derived_gives_lawful (ind1 A) r p q = laws.ind1 r A p
 derived_gives_lawful (som A B) r p q = laws.som r A B p
 derived_gives_lawful (chain A B C) r p q = laws.chain r A B C p q
+
+pub rules_keep_law : RulesKeepLaw
+rules_keep_law rule X P Q (inl g) = gives_lawful g
+rules_keep_law rule X P Q (inr g) = derived_gives_lawful g
 
 pub published_lawful : Lawful published
 published_lawful rule X P Q e = gives_lawful ((published_exact rule X P Q).0 e).0

@@ -3,3 +3,4 @@ pub mod Parts
 pub mod Tautologies
 pub mod Exact
 pub mod Lawful
+pub mod Sound

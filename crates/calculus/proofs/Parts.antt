@@ -4,16 +4,12 @@ use Rattle.std.specs.List.{slice_get}
 use Rattle.std.proofs.lemmas.List.{length_push}
 use Rattle.logic.specs.Formula.{Formula, falsum, atom, implies, next, always}
 use Rattle.logic.specs.Same.{same}
-use Rattle.formulas.specs.Adding.{Distinct, place}
+use Rattle.formulas.specs.Adding.{Distinct, Member, place}
 use Rattle.formulas.proofs.Members.{nth_push, nth_pushed, nth_stays, distinct_push}
 use Rattle.formulas.proofs.Places.{place_is, none_there}
 use Rattle.formulas.proofs.Likeness.{same_tells}
 use Rattle.calculus.specs.PrimeParts.{PrimePart, add, gathered}
 use Rattle.calculus.specs.Promises.{PrimePartsListed}
-
--- a formula has a number in a list
-abbrev pub Member : List Formula → Formula → Type 0
-Member ps X = (n : ℕ) × (slice_get ps n ≡ Some X)
 
 -- what holds of the list as it is if A is in it, and else of the list with A at its end, holds of the list to which A is added
 add_both : (P : List Formula → Type 0) (ps : List Formula) (A : Formula) → (Member ps A → P ps) → ((Member ps A → ⊥) → P (ps ++ A ∷ [])) → P (add ps A)

@@ -4,10 +4,12 @@ use Rattle.std.proofs.lemmas.Bool.{cond_both, and_parts, and_from, false≢true}
 use Rattle.logic.specs.Formula.{Formula, falsum, atom, implies, next, always}
 use Rattle.logic.specs.Same.{same}
 use Rattle.logic.proofs.Same.{same_true, same_refl}
+use Rattle.formulas.specs.Adding.{Member}
 use Rattle.formulas.proofs.Members.{some_same, some_not_none}
 use Rattle.calculus.specs.Tautology.{eval, Tautology}
 use Rattle.calculus.specs.PrimeParts.{PrimePart, prime_parts, put, every_way, is_tautology}
-use Rattle.calculus.proofs.Parts.{Member, gathered_has}
+use Rattle.calculus.specs.Promises.{PrimePartsMatter}
+use Rattle.calculus.proofs.Parts.{gathered_has}
 
 -- choices that agree on a formula's prime parts agree on it
 pub agreed : (A : Formula) (v w : Formula → Bool) → ((X : Formula) → PrimePart A X → w X ≡ v X) → eval w A ≡ eval v A
@@ -47,3 +49,6 @@ tried (P ∷ ps) A v t =
 
 pub tautology : (A : Formula) → (is_tautology A ≡ true) ↔ Tautology A
 tautology A = (λ e w. true_anyway (prime_parts A) A (λ _. false) w e (λ X p. inl (gathered_has [] A X p)), tried (prime_parts A) A (λ _. false))
+
+pub prime_parts_matter : PrimePartsMatter
+prime_parts_matter A v w h = agreed A w v h

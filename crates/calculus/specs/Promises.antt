@@ -1,18 +1,33 @@
--- What is promised of the two pages.
-use Rattle.std.specs.Prelude.{◌≡◌, ℕ, ◌<◌, ◌≤◌, ◌↔◌, length, Some, None, Option, ◌≢◌}
-use Rattle.std.specs.List.{slice_get}
+-- What is promised of prime parts, of the rules, of the two pages, and of derivations.
+use Rattle.std.specs.Prelude.{◌≡◌, ℕ, ◌<◌, ◌≤◌, Bool, ◌⊎◌, ◌↔◌, length, None, Option, ◌≢◌}
 use Rattle.logic.specs.Formula.{Formula}
-use Rattle.formulas.specs.Adding.{Distinct}
+use Rattle.logic.specs.Run.{Run}
+use Rattle.logic.specs.Truth.{Throughout}
+use Rattle.formulas.specs.Adding.{Distinct, Member}
 use Rattle.calculus.specs.declared.verdict.Verdict.TheVariants.{Admitted, BeyondLimit}
+use Rattle.calculus.specs.Tautology.{eval}
 use Rattle.calculus.specs.PrimeParts.{PrimePart, prime_parts}
 use Rattle.calculus.specs.Rules.{Gives, DerivedGives}
-use Rattle.calculus.specs.Pages.{Verdicts}
+use Rattle.calculus.specs.Pages.{Given, Verdicts}
 use Rattle.calculus.specs.Published.{published}
 use Rattle.calculus.specs.Derived.{derived}
+use Rattle.calculus.specs.Derivations.{DerivationLine, Derivation}
 
 -- the prime parts of a formula are listed, each once
 abbrev pub PrimePartsListed : Type 0
-PrimePartsListed = (X : Formula) → Distinct (prime_parts X) × ((P : Formula) → ((n : ℕ) × (slice_get (prime_parts X) n ≡ Some P)) ↔ PrimePart X P)
+PrimePartsListed = (X : Formula) → Distinct (prime_parts X) × ((P : Formula) → Member (prime_parts X) P ↔ PrimePart X P)
+
+-- choices of truth that agree on a formula's prime parts give it the same truth
+abbrev pub PrimePartsMatter : Type 0
+PrimePartsMatter = (A : Formula) (v w : Formula → Bool) → ((P : Formula) → PrimePart A P → v P ≡ w P) → eval v A ≡ eval w A
+
+-- on every run on which the given premises of a rule hold throughout, its conclusion does
+abbrev pub RulesKeepLaw : Type 0
+RulesKeepLaw = (rule : ℕ) (X : Formula) (P Q : Option Formula) → Gives rule X P Q ⊎ DerivedGives rule X P Q → (r : Run) → Given r P → Given r Q → Throughout r X
+
+-- on every run on which the assumptions of a derivation hold throughout, the formula of each of its lines does
+abbrev pub DerivationsSound : Type 0
+DerivationsSound = (D : Derivation) (r : Run) → ((A : Formula) → Member D.assumptions A → Throughout r A) → (s : DerivationLine) → Member D.steps s → Throughout r s.formula
 
 -- the published page admits exactly what the axioms and rules give, a tautology if it has at most twelve prime parts
 abbrev pub PublishedExact : Type 0

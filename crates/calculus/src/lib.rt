@@ -1,7 +1,7 @@
 // The standard axiom system of linear temporal logic, and rules that are derived in it: definitions and theorems.
 #![tactic(auto)]
 
-ghost use Rattle.calculus.specs.Promises.{PrimePartsListed, PublishedExact, PublishedLimit, DerivedExact};
+ghost use Rattle.calculus.specs.Promises.{PrimePartsListed, PrimePartsMatter, RulesKeepLaw, PublishedExact, PublishedLimit, DerivedExact, DerivationsSound};
 
 mod verdict;
 
@@ -10,6 +10,16 @@ pub use verdict::Verdict;
 // The prime parts of a formula are listed, each once.
 pub fn prime_parts_listed()
     ensures { PrimePartsListed }
+{}
+
+// Choices of truth that agree on a formula's prime parts give it the same truth.
+pub fn prime_parts_matter()
+    ensures { PrimePartsMatter }
+{}
+
+// Each axiom and rule, and each derived rule, gives what holds throughout every run on which its premises do.
+pub fn rules_keep_law()
+    ensures { RulesKeepLaw }
 {}
 
 // The published page admits a conclusion exactly when an axiom or a rule gives it, within the limit.
@@ -25,4 +35,9 @@ pub fn published_limit()
 // The derived page admits by its rules exactly what they give, and says of all others what the page below says.
 pub fn derived_exact()
     ensures { DerivedExact }
+{}
+
+// The formulas of a derivation's lines hold throughout every run on which its assumptions do.
+pub fn derivations_sound()
+    ensures { DerivationsSound }
 {}

@@ -11,7 +11,7 @@ use Rattle.formulas.specs.Adding.{Distinct, place, number_for, add_answer, add_a
 use Rattle.formulas.specs.Entries.{asked}
 use Rattle.formulas.specs.Forming.{after_for, form_after}
 use Rattle.formulas.proofs.Members.{distinct_push, every_push}
-use Rattle.formulas.proofs.Places.{Tells, none_there}
+use Rattle.formulas.proofs.Places.{IsEquality, none_there}
 
 -- no list gets shorter
 pub add_longer : {X : Type 0} (most : ℕ) (xs : List X) (x : X) (o : Option ℕ) → length xs ≤ length (add_after most xs x o)
@@ -50,7 +50,7 @@ number_or most full xs None = by (ltb (length xs) most)
     by false = refl
 
 -- a list without repeats stays one
-pub add_distinct : {X : Type 0} (eq : X → X → Bool) → Tells eq → (most : ℕ) (xs : List X) (x : X) → Distinct xs → Distinct (add_after most xs x (place eq xs x))
+pub add_distinct : {X : Type 0} (eq : X → X → Bool) → IsEquality eq → (most : ℕ) (xs : List X) (x : X) → Distinct xs → Distinct (add_after most xs x (place eq xs x))
 add_distinct {X} eq tells most xs x distinct = by (place eq xs x) refl
   where
     by : (o : Option ℕ) → place eq xs x ≡ o → Distinct (add_after most xs x o)

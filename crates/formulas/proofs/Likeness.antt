@@ -6,12 +6,12 @@ use Rattle.logic.proofs.Same.{same_true, same_refl}
 use Rattle.formulas.specs.declared.entry.Entry.{Entry}
 use Rattle.formulas.specs.declared.entry.Entry.TheVariants.{False, Atom, Implies, Next, Always}
 use Rattle.formulas.specs.contracts.entry.EntryPartialEq.TheImpl.{eq-value}
-use Rattle.formulas.proofs.Places.{Tells}
+use Rattle.formulas.proofs.Places.{IsEquality}
 
-pub eqb_tells : Tells eqb
+pub eqb_tells : IsEquality eqb
 eqb_tells = record { sound = eqb-true; itself = λ n. eq-eqb n n refl }
 
-pub same_tells : Tells same
+pub same_tells : IsEquality same
 same_tells = record { sound = same_true; itself = same_refl }
 
 -- the comparison that is derived for entries
@@ -56,5 +56,5 @@ entry_itself (Implies a b) = and_from (eqb a a) (eqb b b) (eq-eqb a a refl) (eq-
 entry_itself (Next a) = eq-eqb a a refl
 entry_itself (Always a) = eq-eqb a a refl
 
-pub entry_tells : Tells entry_eq
+pub entry_tells : IsEquality entry_eq
 entry_tells = record { sound = entry_sound; itself = entry_itself }

@@ -1,34 +1,27 @@
 -- Members of a list by their numbers, and a list with one more at its end.
-use Rattle.std.proofs.Common.{◌≡◌, ℕ, zero, suc, ◌<◌, ◌⊎◌, List, [], ◌∷◌, ◌++◌, map, length, Some, None, sym, refl, ◌∙◌, subst, inl, inr, arith}
+use Rattle.std.proofs.Common.{◌≡◌, ℕ, zero, suc, ◌<◌, ◌⊎◌, List, [], ◌∷◌, ◌++◌, length, Some, None, sym, refl, ◌∙◌, subst, inl, inr, arith}
 use Rattle.std.specs.List.{slice_get}
-use Rattle.std.specs.Option.{option_map}
 use Rattle.std.proofs.lemmas.List.{length_push}
+use Rattle.std.proofs.lemmas.Option.{none-some, same_Some, slice_get_within}
 use Rattle.std.proofs.lemmas.Bool.{cases_lt}
 use Rattle.formulas.specs.Adding.{Distinct}
 
+-- the library's laws, with what is in `Some` left to be found
 pub some_same : {X : Type 0} {x y : X} → Some x ≡ Some y → x ≡ y
-some_same e = cc
+some_same e = same_Some _ _ e
 
 pub some_not_none : {X : Type 0} {x : X} → Some x ≡ None → ⊥
-some_not_none e = let z : ◌≡◌ {A = ℕ} 0 1 = cc in omega arith
+some_not_none e = none-some _ (sym e)
 
 -- a member's number is below the length
 pub nth_within : {X : Type 0} (xs : List X) (i : ℕ) {x : X} → slice_get xs i ≡ Some x → i < length xs
-nth_within [] i e = absurd (some_not_none (sym e))
-nth_within (y ∷ ys) zero e = omega arith
-nth_within (y ∷ ys) (suc i) e = let h : i < length ys = nth_within ys i e in omega arith
+nth_within xs i e = slice_get_within xs i _ e
 
 -- a number below the length is a member's
 pub nth_there : {X : Type 0} (xs : List X) (i : ℕ) → i < length xs → (x : X) × (slice_get xs i ≡ Some x)
 nth_there [] i h = absurd (omega arith)
 nth_there (y ∷ ys) zero h = (y, refl)
 nth_there (y ∷ ys) (suc i) h = nth_there ys i (omega arith)
-
--- the members of a list that a function makes of another's
-pub nth_map : {X Y : Type 0} (g : X → Y) (xs : List X) (i : ℕ) → slice_get (map g xs) i ≡ option_map g (slice_get xs i)
-nth_map g [] i = refl
-nth_map g (x ∷ xs) zero = refl
-nth_map g (x ∷ xs) (suc i) = nth_map g xs i
 
 -- more members behind those that are there
 pub nth_append_left : {X : Type 0} (xs ys : List X) (i : ℕ) → i < length xs → slice_get (xs ++ ys) i ≡ slice_get xs i

@@ -9,11 +9,11 @@ use Rattle.formulas.specs.Adding.{Distinct, place}
 use Rattle.formulas.proofs.Members.{some_same, some_not_none, nth_within}
 
 -- the test is equality
-pub record Tells {X : Type 0} (eq : X → X → Bool) : Type 0 where
+pub record IsEquality {X : Type 0} (eq : X → X → Bool) : Type 0 where
   pub sound : (x y : X) → eq x y ≡ true → x ≡ y
   pub itself : (x : X) → eq x x ≡ true
 
-module _ {X : Type 0} (eq : X → X → Bool) (tells : Tells eq) where
+module _ {X : Type 0} (eq : X → X → Bool) (tells : IsEquality eq) where
   differ : (x y : X) → (x ≡ y → ⊥) → eq x y ≡ false
   differ x y h = elim (cases_Bool (eq x y)) [ inl t ↦ absurd (h (tells.sound x y t)) | inr f ↦ f ]
 
@@ -29,10 +29,6 @@ module _ {X : Type 0} (eq : X → X → Bool) (tells : Tells eq) where
     place_is i found =
         let at = position-Some (λ y. eq y x) ys i x found in
         slice_get-get_or ys i x at.0 ∙ ap Some (tells.sound (get_or ys i x) x at.1)
-
-    -- and there is none before it
-    pub place_least : (i : ℕ) → place eq ys x ≡ Some i → (k : ℕ) → k < i → slice_get ys k ≡ Some x → ⊥
-    place_least i found k before is = true≢false (sym (passes k is) ∙ (position-Some (λ y. eq y x) ys i x found).2 k before)
 
     -- in a list without repeats, the only place is the first
     pub place_only : Distinct ys → (i : ℕ) → slice_get ys i ≡ Some x → place eq ys x ≡ Some i
@@ -62,7 +58,7 @@ module _ {X : Type 0} (eq : X → X → Bool) (tells : Tells eq) where
         ]
 
 -- two tests that are both equality find the same place
-pub same_place : {X : Type 0} (e f : X → X → Bool) → Tells e → Tells f → (ys : List X) (x : X) → place e ys x ≡ place f ys x
+pub same_place : {X : Type 0} (e f : X → X → Bool) → IsEquality e → IsEquality f → (ys : List X) (x : X) → place e ys x ≡ place f ys x
 same_place {X} e f of_e of_f ys x = ap (λ (t : X → X → Bool). place t ys x) (λ i y z. same y z i)
   where
     same : (y z : X) → e y z ≡ f y z

@@ -1,10 +1,14 @@
 -- Lists in which nothing stands twice, and how one is added to.
-use Rattle.std.specs.Prelude.{ℕ, ◌<◌, Bool, cond, List, [], ◌∷◌, ◌++◌, length, Some, None, Ok, Err, Option, Result, ◌≢◌, nat_lt}
+use Rattle.std.specs.Prelude.{◌≡◌, ℕ, ◌<◌, Bool, cond, List, [], ◌∷◌, ◌++◌, length, Some, None, Ok, Err, Option, Result, ◌≢◌, nat_lt}
 use Rattle.std.specs.List.{slice_get, position}
 
 -- no two members are equal
 abbrev pub Distinct : {X : Type 0} → List X → Type 0
 Distinct xs = (i j : ℕ) → i < j → j < length xs → slice_get xs i ≢ slice_get xs j
+
+-- x has a number in a list
+abbrev pub Member : {X : Type 0} → List X → X → Type 0
+Member xs x = (n : ℕ) × (slice_get xs n ≡ Some x)
 
 -- where x first stands, by a test of likeness
 abbrev pub place : {X : Type 0} → (X → X → Bool) → List X → X → Option ℕ

@@ -4,6 +4,9 @@ ghost use Rattle.formulas.specs.Entries.{asked, kind_numbered};
 
 use refusals::Refusal;
 
+// Atoms are numbered from 0 up to this one.
+const LAST_ATOM: u16 = 31;
+
 // Operands by number, and no boxes: formulas share their parts, and nothing is allocated after a list is made.
 #[derive(Clone, Copy, PartialEq, Eq, Debug)]
 pub enum Entry {
@@ -56,7 +59,7 @@ impl Entry {
         let right_entered = usize::from(right) < entered;
         match Kind::try_from(kind)? {
             Kind::False if left == 0 && right == 0 => Ok(Entry::False),
-            Kind::Atom if left <= 31 && right == 0 => Ok(Entry::Atom(left as u8)),
+            Kind::Atom if left <= LAST_ATOM && right == 0 => Ok(Entry::Atom(left as u8)),
             Kind::Implies if left_entered && right_entered => Ok(Entry::Implies(left, right)),
             Kind::Next if left_entered && right == 0 => Ok(Entry::Next(left)),
             Kind::Always if left_entered && right == 0 => Ok(Entry::Always(left)),

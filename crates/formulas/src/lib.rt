@@ -6,5 +6,5 @@ mod list;
 mod table;
 
 pub use entry::Entry;
-pub use list::FormulaList;
+pub use list::{FORMULAS, FormulaList};
 pub use table::Table;

@@ -9,7 +9,7 @@ use refusals::Refusal;
 use std::alloc::{AllocError, Global};
 
 // The most formulas that a list holds.
-const FORMULAS: u16 = 1024;
+pub const FORMULAS: u16 = 1024;
 
 // Ghost fields, and no `impl Model`: proofs of `cases` rest on them, and a model's invariant is not seen outside.
 #[derive(Drop)]

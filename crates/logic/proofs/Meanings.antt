@@ -1,4 +1,4 @@
--- The abbreviations mean what their names say, since what holds is decided.
+-- An implication and the abbreviations mean what their names say, since what holds is decided.
 use Rattle.std.proofs.Common.{◌≡◌, ℕ, zero, suc, ◌+◌, ◌-◌, ◌≤◌, Bool, true, false, ◌⊎◌, refl, inl, inr, arith}
 use Rattle.std.proofs.lemmas.Bool.{cases_Bool, and_from, both_ways}
 use Rattle.logic.specs.Formula.{Formula, implies, always}
@@ -33,6 +33,12 @@ fails_somewhere (suc n) i p = elim (cases_Bool (p i)) [
 ]
 
 module _ (r : Run) (A B : Formula) (i : ℕ) where
+  implies_to : Holds r (implies A B) i → (Holds r A i → ⊥) ⊎ Holds r B i
+  implies_to h = elim (holds_or_not r A i) [ inl a ↦ inr (h a) | inr never ↦ inl never ]
+
+  implies_from : (Holds r A i → ⊥) ⊎ Holds r B i → Holds r (implies A B) i
+  implies_from h = λ a. elim h [ inl never ↦ absurd (never a) | inr b ↦ b ]
+
   or_to : Holds r (or A B) i → Holds r A i ⊎ Holds r B i
   or_to h = elim (holds_or_not r A i) [ inl a ↦ inl a | inr never ↦ inr (h never) ]
 
@@ -50,6 +56,7 @@ eventually_to r A i h = elim (fails_somewhere ((r.stem - i) + r.loop) i (truth r
 
 pub meanings : (r : Run) (A B : Formula) (i : ℕ) → Meanings r A B i
 meanings r A B i = record {
+  implies_means = (implies_to r A B i, implies_from r A B i);
   not_means = (λ h. h, λ h. h);
   or_means = (or_to r A B i, or_from r A B i);
   and_means = (and_to r A B i, λ h never. never h.0 h.1);

@@ -18,7 +18,8 @@ pub fn truth_repeats()
     ensures { (r : Run) (A : Formula) (k i : ℕ) → r.stem ≤ i → Holds r A (i + k * r.loop) ↔ Holds r A i }
 {}
 
-// The abbreviations ¬, ∨, ∧, ↔ and ◇ mean what their names say.
+// An implication holds where its left side does not or its right side does, and the abbreviations ¬, ∨, ∧, ↔ and ◇ mean
+// what their names say.
 pub fn abbreviations_mean()
     ensures { (r : Run) (A B : Formula) (i : ℕ) → Meanings r A B i }
 {}

@@ -5,8 +5,10 @@ use Rattle.std.specs.List.{EachIndex}
 use lib.Count.{count_leading_zeros, leading_length}
 use Rattle.std.proofs.lemmas.List.{get_or_past}
 use Rattle.std.proofs.lemmas.Bool.{cases_lt, cases_eq, lt-ltb, lt-leb, le-leb, and_right, and_left, and_from, ne_eqb, eq-eqb, cases_Bool, both_ways}
+use Rattle.std.proofs.Math.Bool.{or-false}
+use Rattle.std.specs.Cmp as cmp
 use Rattle.std.proofs.lemmas.Bool.Decides.{nat_tests}
-use Rattle.rows.specs.Row.{testBit, low_ones, bit, row_of, all_from, Ends}
+use Rattle.rows.specs.Row.{testBit, low_ones, bit, row_of, true_from, Ends}
 use Rattle.rows.proofs.Bits.{bit_zero, bit_half, bit_shl, bit_above, bit_top, bit_one, bit_pack, testBit_and, testBit_or, bit_not, bit_ones, bits_same, pack_lt, is_pack}
 
 -- the word w, as the word k of a row, says what f says
@@ -144,7 +146,7 @@ says_earlier row k fit =
       at = λ i h. testBit_or (u / 2) (v * 2 ^ 63 % 2 ^ 64) i
           ∙ ap₂ (λ x y. x || y) (sym (bit_half u i)) (bit_shl 64 v 63 i h)
           ∙ ⊎_elim
-          (λ (l : i < 63). ap (λ b. testBit u (suc i) || (b && testBit v (i - 63))) (lt-leb 63 i l) ∙ or_false (testBit u (suc i))
+          (λ (l : i < 63). ap (λ b. testBit u (suc i) || (b && testBit v (i - 63))) (lt-leb 63 i l) ∙ or-false (testBit u (suc i))
           ∙ sym (bit_word row k (suc i) (omega arith)) ∙ ap (bit row) (omega arith))
           (λ (l : 63 ≤ i).
           let top : i ≡ 63 = omega arith in
@@ -152,10 +154,6 @@ says_earlier row k fit =
           ∙ ap (testBit v) (omega arith) ∙ sym (bit_word row (k + 1) 0 (omega arith)) ∙ ap (bit row) (omega arith))
           (cases_lt i 63);
     }
-  where
-    or_false : (b : Bool) → (b || false) ≡ b
-    or_false true = refl
-    or_false false = refl
 
 -- ---- a row with one bit, or none
 
@@ -223,39 +221,32 @@ ends_at_start row none =
 
 -- ---- a stretch of positions
 
-pub all_from_true : (f : ℕ → Bool) (k n : ℕ) → ((j : ℕ) → k ≤ j → j < k + n → f j ≡ true) → all_from f k n ≡ true
-unfolding all_from
-all_from_true f k zero each = refl
-all_from_true f k (suc n) each =
-    and_from (f k) (all_from f (suc k) n) (each k (omega arith) (omega arith))
-    (all_from_true f (suc k) n (λ j p q. each j (omega arith) (omega arith)))
+pub true_from_true : (f : ℕ → Bool) (k n : ℕ) → ((j : ℕ) → k ≤ j → j < k + n → f j ≡ true) → true_from n k f ≡ true
+unfolding true_from
+true_from_true f k zero each = refl
+true_from_true f k (suc n) each =
+    and_from (f k) (true_from n (suc k) f) (each k (omega arith) (omega arith))
+    (true_from_true f (suc k) n (λ j p q. each j (omega arith) (omega arith)))
 
-pub all_from_false : (f : ℕ → Bool) (k n j : ℕ) → k ≤ j → j < k + n → f j ≡ false → all_from f k n ≡ false
-unfolding all_from
-all_from_false f k zero j p q e = absurd (omega arith)
-all_from_false f k (suc n) j p q e =
-    ⊎_elim (λ same. and_left (f k) (all_from f (suc k) n) (ap f same ∙ e))
-    (λ ne. and_right (f k) (all_from f (suc k) n) (all_from_false f (suc k) n j (omega (arith, ne)) (omega arith) e)) (cases_eq k j)
+pub true_from_false : (f : ℕ → Bool) (k n j : ℕ) → k ≤ j → j < k + n → f j ≡ false → true_from n k f ≡ false
+unfolding true_from
+true_from_false f k zero j p q e = absurd (omega arith)
+true_from_false f k (suc n) j p q e =
+    ⊎_elim (λ same. and_left (f k) (true_from n (suc k) f) (ap f same ∙ e))
+    (λ ne. and_right (f k) (true_from n (suc k) f) (true_from_false f (suc k) n j (omega (arith, ne)) (omega arith) e)) (cases_eq k j)
 
-pub all_from_at : (f : ℕ → Bool) (k n j : ℕ) → all_from f k n ≡ true → k ≤ j → j < k + n → f j ≡ true
-all_from_at f k n j all p q =
-    ⊎_elim (λ t. t) (λ e. absurd (both_ways (all_from f k n) (all_from_false f k n j p q e) all)) (cases_Bool (f j))
-
--- two answers that are yes alike are the same
-pub same_answers : (x y : Bool) → (x ≡ true) ↔ (y ≡ true) → x ≡ y
-same_answers true y h = sym (h.0 refl)
-same_answers false true h = absurd (both_ways false refl (h.1 refl))
-same_answers false false h = refl
+pub true_from_at : (f : ℕ → Bool) (k n j : ℕ) → true_from n k f ≡ true → k ≤ j → j < k + n → f j ≡ true
+true_from_at f k n j all p q =
+    ⊎_elim (λ t. t) (λ e. absurd (both_ways (true_from n k f) (true_from_false f k n j p q e) all)) (cases_Bool (f j))
 
 -- whether all words are all ones says whether all positions are true
 pub full_row : (row : List ℕ) (b : Bool) → length row ≡ 4 → ((k : ℕ) → k < 4 → get_or row k 0 < 2 ^ 64)
-    → IsTrue b ↔ EachIndex row (λ k. get_or row k 0 ≡ 18446744073709551615) → b ≡ all_from (bit row) 0 256
-full_row row b n fits is = same_answers b (all_from (bit row) 0 256) (
-  λ t. all_from_true (bit row) 0 256 (λ j l h.
-      let e : j ≡ 64 * (j / 64) + j % 64 = omega arith in
-      ap (bit row) e ∙ bit_word row (j / 64) (j % 64) (omega arith)
-      ∙ ap (λ w. testBit w (j % 64)) (is.0 t (j / 64) (omega arith)) ∙ bit_ones 64 (j % 64) ∙ lt-ltb (j % 64) 64 (omega arith)),
-  λ all. is.1 (λ k h. bits_same 64 (get_or row k 0) (2 ^ 64 - 1) (fits k (omega arith)) (omega arith)
-      (λ i l. sym (bit_word row k i l) ∙ all_from_at (bit row) 0 256 (64 * k + i) all (omega arith) (omega arith)
-      ∙ sym (bit_ones 64 i ∙ lt-ltb i 64 l))),
-)
+    → IsTrue b ↔ EachIndex row (λ k. get_or row k 0 ≡ 18446744073709551615) → b ≡ true_from 256 0 (bit row)
+full_row row b n fits is = cmp.both_ways b (true_from 256 0 (bit row))
+    (λ t. true_from_true (bit row) 0 256 (λ j l h.
+    let e : j ≡ 64 * (j / 64) + j % 64 = omega arith in
+    ap (bit row) e ∙ bit_word row (j / 64) (j % 64) (omega arith)
+    ∙ ap (λ w. testBit w (j % 64)) (is.0 t (j / 64) (omega arith)) ∙ bit_ones 64 (j % 64) ∙ lt-ltb (j % 64) 64 (omega arith)))
+    (λ all. is.1 (λ k h. bits_same 64 (get_or row k 0) (2 ^ 64 - 1) (fits k (omega arith)) (omega arith)
+    (λ i l. sym (bit_word row k i l) ∙ true_from_at (bit row) 0 256 (64 * k + i) all (omega arith) (omega arith)
+    ∙ sym (bit_ones 64 i ∙ lt-ltb i 64 l))))

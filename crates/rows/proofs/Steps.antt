@@ -1,8 +1,9 @@
 -- The rows of a formula's parts make the formula's row.
 use Rattle.std.proofs.Common.{◌≡◌, ℕ, ◌+◌, ◌-◌, ◌<◌, ◌≤◌, min, Bool, true, false, cond, not, ◌&&◌, ◌||◌, eqb, ltb, List, sym, refl, ap, ◌∙◌, ap₂, ⊎_elim, arith}
+use Rattle.std.proofs.Math.Bool.{and-true}
 use Rattle.std.proofs.lemmas.Bool.{cases_lt, cases_eq, lt-ltb, le-ltb, eq-eqb, ne_eqb, ltb-true, and_parts, and_left, and_right, not-true, not-false}
-use Rattle.rows.specs.Row.{bit, row_of, all_from, after, Ends}
-use Rattle.rows.proofs.Rows.{said, row_of_same, all_from_true, all_from_false}
+use Rattle.rows.specs.Row.{bit, row_of, true_from, after, Ends}
+use Rattle.rows.proofs.Rows.{said, row_of_same, true_from_true, true_from_false}
 
 -- ---- implies
 
@@ -35,10 +36,6 @@ next_row a m e o r s n h fits em ee eo er =
     no_more false true = refl
     no_more false false = refl
 
-    alone : (y : Bool) → (y && true) ≡ y
-    alone true = refl
-    alone false = refl
-
     step : (i : ℕ) → ((ltb i (n - 1) && bit a (i + 1)) || (bit a s && eqb i (n - 1))) ≡ (ltb i n && bit a (cond (ltb (i + 1) n) (i + 1) s))
     step i =
         ⊎_elim
@@ -50,7 +47,7 @@ next_row a m e o r s n h fits em ee eo er =
         ap (λ b. (b && bit a (i + 1)) || (bit a s && eqb i (n - 1))) (le-ltb i (n - 1) (omega arith))
         ∙ ⊎_elim
         (λ (e : i + 1 ≡ n).
-        ap (λ c. bit a s && c) (eq-eqb i (n - 1) (omega arith)) ∙ alone (bit a s)
+        ap (λ c. bit a s && c) (eq-eqb i (n - 1) (omega arith)) ∙ and-true (bit a s)
         ∙ sym (ap₂ (λ b c. b && bit a (cond c (i + 1) s)) (lt-ltb i n (omega arith)) (le-ltb (i + 1) n l)))
         (λ ne.
         and_right (bit a s) (eqb i (n - 1)) (ne_eqb i (n - 1) (λ e. ne (omega arith)))
@@ -76,22 +73,22 @@ module _ (a full d : List ℕ) (s n e : ℕ) (stem : s ≤ n) (long : n ≤ 256)
   holds j l h =
       not-false (bit a j) (ap (λ x. x && not (bit a j)) (sym (lt-ltb j n h)) ∙ sym (d_at j (omega arith)) ∙ ends.within j l)
 
-  pub always_none : s < e → (i : ℕ) → (ltb i n && all_from (bit a) (min i s) (n - min i s)) ≡ false
+  pub always_none : s < e → (i : ℕ) → (ltb i n && true_from (n - min i s) (min i s) (bit a)) ≡ false
   always_none h i =
       let last = fails (e - 1) (omega arith) in
       ⊎_elim
       (λ (l : i < n).
-      and_right (ltb i n) (all_from (bit a) (min i s) (n - min i s))
-      (all_from_false (bit a) (min i s) (n - min i s) (e - 1) (omega arith) (omega (arith, last.0)) last.1))
-      (λ (l : n ≤ i). and_left (ltb i n) (all_from (bit a) (min i s) (n - min i s)) (le-ltb i n l)) (cases_lt i n)
+      and_right (ltb i n) (true_from (n - min i s) (min i s) (bit a))
+      (true_from_false (bit a) (min i s) (n - min i s) (e - 1) (omega arith) (omega (arith, last.0)) last.1))
+      (λ (l : n ≤ i). and_left (ltb i n) (true_from (n - min i s) (min i s) (bit a)) (le-ltb i n l)) (cases_lt i n)
 
   pub always_some : (m r : List ℕ) → e ≤ s → m ≡ row_of (λ i. ltb i e) → r ≡ row_of (λ i. bit full i && not (bit m i))
-      → r ≡ row_of (λ i. ltb i n && all_from (bit a) (min i s) (n - min i s))
+      → r ≡ row_of (λ i. ltb i n && true_from (n - min i s) (min i s) (bit a))
   always_some m r h is_m is_r =
       is_r ∙ row_of_same _ _
       (λ i l. ap₂ (λ x y. x && not y) (said full (λ i. ltb i n) is_full i l) (said m (λ i. ltb i e) is_m i l) ∙ step i)
     where
-      step : (i : ℕ) → (ltb i n && not (ltb i e)) ≡ (ltb i n && all_from (bit a) (min i s) (n - min i s))
+      step : (i : ℕ) → (ltb i n && not (ltb i e)) ≡ (ltb i n && true_from (n - min i s) (min i s) (bit a))
       step i =
           ⊎_elim
           (λ (l : i < n).
@@ -100,10 +97,10 @@ module _ (a full d : List ℕ) (s n e : ℕ) (stem : s ≤ n) (long : n ≤ 256)
           (λ (q : i < e).
           let last = fails (e - 1) (omega arith) in
           ap not (lt-ltb i e q)
-          ∙ sym (all_from_false (bit a) (min i s) (n - min i s) (e - 1) (omega arith) (omega (arith, last.0)) last.1))
+          ∙ sym (true_from_false (bit a) (min i s) (n - min i s) (e - 1) (omega arith) (omega (arith, last.0)) last.1))
           (λ (q : e ≤ i).
           ap not (le-ltb i e q)
-          ∙ sym (all_from_true (bit a) (min i s) (n - min i s) (λ j p u. holds j (omega arith) (omega arith)))) (cases_lt i e)))
+          ∙ sym (true_from_true (bit a) (min i s) (n - min i s) (λ j p u. holds j (omega arith) (omega arith)))) (cases_lt i e)))
           (λ (l : n ≤ i). and_left (ltb i n) (not (ltb i e)) (le-ltb i n l)
-          ∙ sym (and_left (ltb i n) (all_from (bit a) (min i s) (n - min i s)) (le-ltb i n l)))
+          ∙ sym (and_left (ltb i n) (true_from (n - min i s) (min i s) (bit a)) (le-ltb i n l)))
           (cases_lt i n)

@@ -27,9 +27,9 @@ abbrev pub row_up_to : ℕ → (ℕ → Bool) → List ℕ
 row_up_to n f = row_of (λ i. nat_lt i n && f i)
 
 -- f holds at each of the n positions from k on
-unfoldable pub all_from : (ℕ → Bool) → ℕ → ℕ → Bool
-all_from f k zero = true
-all_from f k (suc n) = f k && all_from f (suc k) n
+unfoldable pub true_from : ℕ → ℕ → (ℕ → Bool) → Bool
+true_from zero k f = true
+true_from (suc n) k f = f k && true_from n (suc k) f
 
 -- the position after i on a run whose last position, n - 1, is followed by s
 abbrev pub after : ℕ → ℕ → ℕ → ℕ

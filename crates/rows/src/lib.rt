@@ -2,7 +2,7 @@
 #![tactic(auto)]
 
 ghost use Rattle.std.specs.Prelude.{◌≡◌, ◌+◌, ◌-◌, min, not, ◌&&◌, ◌||◌, ◌==◌};
-ghost use Rattle.rows.specs.Row.{bit, row_of, row_up_to, all_from, after};
+ghost use Rattle.rows.specs.Row.{bit, row_of, row_up_to, true_from, after};
 
 use std::array;
 use words::{and, earlier, end, mask, minus, or, place};
@@ -27,7 +27,7 @@ pub type Row = [u64; WORDS];
 // The row that is nowhere true.
 pub const EMPTY: Row = [0; WORDS];
 
-// Whether a row is true at a position. It is not behind its last one.
+// Whether a row is true at a position. Behind its last position it is not.
 pub fn at(row: Row, position: usize) -> bool
     ensures { result ≡ bit row position }
 {
@@ -58,7 +58,7 @@ pub fn implies_throughout(a: Row, b: Row) -> Row
 
 // Whether a row is true at all positions.
 pub fn is_full(row: Row) -> bool
-    ensures { result ≡ all_from (bit row) 0 256 }
+    ensures { result ≡ true_from 256 0 (bit row) }
 {
     row.iter().all(|word| *word == u64::MAX)
 }
@@ -73,7 +73,7 @@ pub fn next(a: Row, lasso: Lasso) -> Row
 
 // Where `a` is true from there on, through the whole loop.
 pub fn always(a: Row, lasso: Lasso) -> Row
-    ensures { result ≡ row_up_to (lasso.stem + lasso.loop_length) (λ i. all_from (bit a) (min i lasso.stem) (lasso.stem + lasso.loop_length - min i lasso.stem)) }
+    ensures { result ≡ row_up_to (lasso.stem + lasso.loop_length) (λ i. true_from (lasso.stem + lasso.loop_length - min i lasso.stem) (min i lasso.stem) (bit a)) }
 {
     let full = mask(lasso.positions());
     let fails = end(minus(full, a));

@@ -54,7 +54,8 @@ pub(crate) fn place(truth: bool, position: usize) -> Row
 }
 
 // One past the last position where `row` is true, or 0.
-// A loop: `rposition` misses the bar of speed (8.4 ns for `always`, against 7.1), and `enumerate().rfind(..)` has no proof.
+// A loop: `rposition` gives an index alone, so that the word is read again, which is slower; and of `enumerate().rfind(..)`
+// the proof does not close.
 pub(crate) fn end(row: Row) -> usize
     ensures { Ends row result }
 {

@@ -1,11 +1,11 @@
 -- A conclusion and premises are an instance of a shape exactly when formulas put in the places of its letters make them.
-use Rattle.std.proofs.Common.{◌≡◌, ℕ, zero, suc, Bool, true, ◌&&◌, [], ◌∷◌, length, Some, None, Option, is_some, sym, refl, ap, ◌∙◌, subst}
+use Rattle.std.proofs.Common.{◌≡◌, ℕ, zero, suc, Bool, true, ◌&&◌, length, Some, None, Option, is_some, sym, refl, ap, ◌∙◌, subst}
 use Rattle.std.specs.List.{slice_get}
 use Rattle.std.specs.Option.{option_map, option_and_then}
 use Rattle.std.proofs.lemmas.Bool.{and_parts, false≢true}
 use Rattle.logic.specs.Formula.{Formula, falsum}
 use Rattle.formulas.proofs.Members.{some_same, some_not_none}
-use Rattle.rules.specs.Matching.{matched, Shape, premise_matched, is_instance}
+use Rattle.rules.specs.Matching.{none_known, matched, Shape, premise_matched, is_instance}
 use Rattle.rules.proofs.Filling.{filled, Letters, Agrees, Keeps, later, letters_below, and_then_some, sound, Complete, complete}
 
 -- matching a premise
@@ -44,9 +44,6 @@ chosen ls a = chosen_by (slice_get ls a)
 
 chosen_agrees : (ls : Letters) → Agrees (chosen ls) ls
 chosen_agrees ls a X is = ap chosen_by is
-
-abbrev none_known : Letters
-none_known = None ∷ None ∷ None ∷ []
 
 none_agrees : (s : ℕ → Formula) → Agrees s none_known
 none_agrees s zero X is = cc

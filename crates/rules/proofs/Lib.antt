@@ -1,5 +1,5 @@
 pub mod Filling
 pub mod Instances
-pub mod Numbers
+pub mod ByNumbers
 pub mod Shapes
 pub mod Verdicts

@@ -1,5 +1,6 @@
 -- The shapes of the rules say what the two pages say.
 use Rattle.std.proofs.Common.{◌≡◌, ℕ, Bool, true, false, cond, eqb, Some, None, Option, sym, refl, ap, ◌∙◌, subst}
+use Rattle.std.specs.Cmp as cmp
 use Rattle.std.specs.Option.{option_map}
 use Rattle.std.proofs.lemmas.Bool.{cond-false}
 use Rattle.logic.specs.Formula.{Formula, implies, next, always}
@@ -16,7 +17,6 @@ use Rattle.rules.specs.Matching.{Shape, is_instance}
 use Rattle.rules.specs.Shapes.{ltl1, ltl2, ltl3, mp, nex, ind, alw, ind1, som, chain, published_shape, derived_shape}
 use Rattle.rules.proofs.Filling.{filled}
 use Rattle.rules.proofs.Instances.{three_letters, Filled, instance_filled, filled_instance}
-use Rattle.rules.proofs.Numbers.{alike_tests}
 
 -- the verdict by a shape, or another where there is none
 abbrev pub verdict_by : Option Shape → Formula → Option Formula → Option Formula → Verdict → Verdict
@@ -56,7 +56,7 @@ module _ (X : Formula) (P Q : Option Formula) where
   compared : (h : Shape) → three_letters h ≡ true → (Y : Guess Formula) (S T : Guess (Option Formula)) (s : ℕ → Formula) → Filled s h (Y X P) (S X P) (T X P)
       → ((t : ℕ → Formula) → is_step (conclusion_of h t) (first_of h t) (second_of h t) (Y (conclusion_of h t) (first_of h t)) (S (conclusion_of h t) (first_of h t)) (T (conclusion_of h t) (first_of h t)) ≡ true)
       → is_instance h X P Q ≡ is_step X P Q (Y X P) (S X P) (T X P)
-  compared h few Y S T s fills passes = alike_tests (is_instance h X P Q) (is_step X P Q (Y X P) (S X P) (T X P))
+  compared h few Y S T s fills passes = cmp.both_ways (is_instance h X P Q) (is_step X P Q (Y X P) (S X P) (T X P))
       (λ e.
       let p = instance_filled h X P Q e in
       of_filled (λ X P Q. is_step X P Q (Y X P) (S X P) (T X P) ≡ true) h p.0 p.1 (passes p.0))

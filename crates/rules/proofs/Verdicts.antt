@@ -18,7 +18,7 @@ use Rattle.rules.specs.Questions.{all_entered, premise_entered, verdict_on}
 use Rattle.rules.specs.Matching.{Shape, letters_in}
 use Rattle.rules.specs.Rules.{instance_verdict, taut_on}
 use Rattle.rules.specs.Shapes.{published_shape, derived_shape}
-use Rattle.rules.proofs.Numbers.{instance_by_numbers}
+use Rattle.rules.proofs.ByNumbers.{instance_by_numbers}
 use Rattle.rules.proofs.Shapes.{verdict_by, published_by_shape, derived_by_shape}
 
 module _ (h : Shape) (l : FormulaList) (q : Question) where

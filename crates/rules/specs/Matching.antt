@@ -20,9 +20,13 @@ abbrev pub may_be : {X : Type 0} → (X → X → Bool) → Option X → X → B
 may_be alike None x = true
 may_be alike (Some y) x = alike y x
 
--- what stands for the letters, with x for the letter a, unless another stands for it
+-- what stands for the letters, with x for the letter a; nothing if another stands for it, or there is no such letter
 abbrev pub with_letter : {X : Type 0} → (X → X → Bool) → List (Option X) → ℕ → X → Option (List (Option X))
 with_letter alike ls a x = cond (nat_lt a (length ls) && may_be alike (slice_index_or ls a None) x) (Some (set ls a (Some x))) None
+
+-- of the three letters A, B and C, none is known yet
+abbrev pub none_known : {X : Type 0} → List (Option X)
+none_known = None ∷ None ∷ None ∷ []
 
 -- what stands for the letters once X is an instance of a formula, if it is
 abbrev pub matched : Formula → Formula → List (Option Formula) → Option (List (Option Formula))
@@ -96,9 +100,9 @@ premise_matched (Some A) (Some X) ls = matched A X ls
 -- a conclusion and premises are an instance of a shape, of three letters at most
 abbrev pub is_instance : Shape → Formula → Option Formula → Option Formula → Bool
 is_instance h X P Q =
-    is_some (option_and_then (premise_matched h.second Q) (option_and_then (premise_matched h.first P) (matched h.conclusion X (None ∷ None ∷ None ∷ []))))
+    is_some (option_and_then (premise_matched h.second Q) (option_and_then (premise_matched h.first P) (matched h.conclusion X none_known)))
 
 -- what stands for the letters then, by numbers
 abbrev pub letters_in : List Entry → Shape → ℕ → Option ℕ → Option ℕ → Option (List (Option ℕ))
 letters_in es h n p q =
-    option_and_then (premise_matched_in es h.second q) (option_and_then (premise_matched_in es h.first p) (matched_in es h.conclusion n (None ∷ None ∷ None ∷ [])))
+    option_and_then (premise_matched_in es h.second q) (option_and_then (premise_matched_in es h.first p) (matched_in es h.conclusion n none_known))

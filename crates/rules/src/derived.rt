@@ -3,6 +3,7 @@ ghost use Rattle.std.specs.Prelude.{◌≡◌, option_map};
 ghost use Rattle.rules.specs.Rules.{shape_of};
 ghost use Rattle.rules.specs.Shapes.{derived_shape};
 
+use crate::numbers;
 use crate::page::{Question, RulePage};
 use crate::rule::Rule;
 use crate::schema::{A, ALWAYS_A, B, C, FALSE, NEXT_A, NEXT_B, Schema};
@@ -75,10 +76,10 @@ fn rule_numbered(number: u16) -> Option<Rule>
     ensures { option_map shape_of result ≡ derived_shape number }
 {
     match number {
-        16 => Some(ALW),
-        17 => Some(IND1),
-        18 => Some(SOM),
-        19 => Some(CHAIN),
+        numbers::ALW => Some(ALW),
+        numbers::IND1 => Some(IND1),
+        numbers::SOM => Some(SOM),
+        numbers::CHAIN => Some(CHAIN),
         _ => None,
     }
 }

@@ -2,10 +2,13 @@
 ghost use Rattle.std.specs.Prelude.{◌≡◌, nat_eq};
 ghost use Rattle.rules.specs.Matching.{with_letter};
 
-// For A, B and C, by number, as far as they are known.
-pub(crate) type Letters = [Option<u16>; 3];
+// A rule has so many letters at most: A, B and C.
+pub(crate) const LETTERS: usize = 3;
 
-// The letters with a formula for one of them. None if another formula stands for it.
+// What stands for each of them, by number, as far as it is known.
+pub(crate) type Letters = [Option<u16>; LETTERS];
+
+// The letters with a formula for one of them. None if another formula stands for it, or there is no such letter.
 pub(crate) fn with_letter(letters: Letters, letter: u8, number: u16) -> Option<Letters>
     ensures { result ≡ with_letter nat_eq letters letter number }
 {

@@ -3,6 +3,7 @@
 
 mod derived;
 mod letters;
+pub mod numbers;
 mod page;
 mod published;
 mod rule;

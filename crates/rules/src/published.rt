@@ -4,15 +4,13 @@ ghost use Rattle.formulas.specs.Listed.{formulas_of};
 ghost use Rattle.rules.specs.Rules.{shape_of, taut_on};
 ghost use Rattle.rules.specs.Shapes.{published_shape};
 
+use crate::numbers;
 use crate::page::{Question, RulePage};
 use crate::rule::Rule;
 use crate::schema::{A, ALWAYS_A, B, FALSE, NEXT_A, NEXT_B, Schema};
 use calculus::Verdict;
 use formulas::FormulaList;
 use tautologies::taut_verdict;
-
-// The number of the rule for tautologies.
-const TAUT: u16 = 1;
 
 const NOT_A: Schema<'static> = Schema::Implies(&A, &FALSE);
 
@@ -97,7 +95,7 @@ impl RulePage for PublishedPage {
     ghost meaning = { λ _. record { verdict = published; lawful = published_lawful } };
 
     fn verdict(&self, formulas: &FormulaList, question: Question) -> Verdict {
-        if question.rule == TAUT {
+        if question.rule == numbers::TAUT {
             return taut(formulas, question);
         }
         match rule_numbered(question.rule) {
@@ -122,12 +120,12 @@ fn rule_numbered(number: u16) -> Option<Rule>
     ensures { option_map shape_of result ≡ published_shape number }
 {
     match number {
-        2 => Some(LTL1),
-        3 => Some(LTL2),
-        4 => Some(LTL3),
-        5 => Some(MP),
-        6 => Some(NEX),
-        7 => Some(IND),
+        numbers::LTL1 => Some(LTL1),
+        numbers::LTL2 => Some(LTL2),
+        numbers::LTL3 => Some(LTL3),
+        numbers::MP => Some(MP),
+        numbers::NEX => Some(NEX),
+        numbers::IND => Some(IND),
         _ => None,
     }
 }

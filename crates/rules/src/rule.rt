@@ -4,7 +4,7 @@ ghost use Rattle.formulas.specs.Listed.{entries_of, formulas_of};
 ghost use Rattle.rules.specs.Matching.{schema_of, premise_matched_in, letters_in};
 ghost use Rattle.rules.specs.Rules.{shape_of, instance_verdict};
 
-use crate::letters::Letters;
+use crate::letters::{LETTERS, Letters};
 use crate::page::Question;
 use crate::schema::{Schema, matched};
 use calculus::Verdict;
@@ -33,7 +33,12 @@ impl Rule {
     fn letters(&self, formulas: &FormulaList, question: Question) -> Option<Letters>
         ensures { result ≡ letters_in (entries_of formulas.now) (shape_of self.now) question.conclusion question.first question.second }
     {
-        let of_conclusion = matched(&self.conclusion, formulas, question.conclusion, [None; 3])?;
+        let of_conclusion = matched(
+            &self.conclusion,
+            formulas,
+            question.conclusion,
+            [None; LETTERS],
+        )?;
         let of_first = premise_matched(self.first, formulas, question.first, of_conclusion)?;
         premise_matched(self.second, formulas, question.second, of_first)
     }

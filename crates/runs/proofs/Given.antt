@@ -22,7 +22,7 @@ tables_as_given bytes p =
     let kept : suc (word bytes 2 - 1) ≡ word bytes 2 = omega arith in (
       ap (λ r. r.stem) run,
       ap (λ r. r.loop) run ∙ kept,
-      λ a i h l.
+      λ a i l.
           let says : (table_run bytes).says a i ≡ eqb (double_word bytes (4 + 4 * i) / 2 ^ a % 2) 1 =
           ap (λ r. r.says a i) run
           ∙ says_within (word bytes 0) (word bytes 2) (table_says (drop 4 bytes)) a i passed.turns l

@@ -1,5 +1,5 @@
 -- What bytes have that pass a check, and which run bytes give.
-use Rattle.std.proofs.Common.{◌≡◌, ℕ, ◌+◌, ◌*◌, ◌/◌, ◌%◌, ◌^◌, ◌<◌, ◌≤◌, Bool, true, eqb, List, [], length, drop, Ok, Err, Result, sym, ap, ◌∙◌, arith}
+use Rattle.std.proofs.Common.{◌≡◌, ℕ, ◌/◌, ◌%◌, ◌^◌, ◌<◌, ◌≤◌, Bool, true, eqb, List, [], length, drop, Ok, Err, Result, refl, sym, ap, ◌∙◌, arith}
 use mathlib.Core.Path.{fun_ext}
 use native.Mathlib.Nat.{zero-div}
 use Rattle.std.specs.Result.{result_unwrap_or}
@@ -7,16 +7,14 @@ use Rattle.std.proofs.lemmas.Bool.Decides.{nat_tests}
 use Rattle.logic.specs.Run.{Run}
 use Rattle.runs.specs.declared.fault.RunFault.{RunFault}
 use Rattle.runs.specs.Bytes.{word}
-use Rattle.runs.specs.Looping.{looped}
+use Rattle.runs.specs.AsGiven.{SilentOtherwise}
+use Rattle.runs.specs.Looping.{looped, when_run}
 use Rattle.runs.specs.Meanings.{GivesRun}
 use Rattle.runs.specs.Pulses.{pulse_at, pulse_in, pulsed, latest, in_order, pulse_check, pulse_run}
+use Rattle.runs.specs.Rules.{TableRules}
 use Rattle.runs.specs.Tables.{table_says, words_say, table_check, table_run}
 
-pub record TablePassed (bytes : List ℕ) : Type 0 where
-  pub long : length bytes ≡ 4 + 4 * (word bytes 0 + word bytes 2)
-  pub turns : 0 < word bytes 2
-
-pub table_passed : (bytes : List ℕ) → table_check bytes ≡ Ok tt → TablePassed bytes
+pub table_passed : (bytes : List ℕ) → table_check bytes ≡ Ok tt → TableRules bytes
 unfolding table_check
 table_passed bytes p = record { long = grind (arith, nat_tests); turns = grind (arith, nat_tests) }
 
@@ -51,6 +49,10 @@ unfolding pulse_run
 pulses_passed_run bytes p = rw p
 
 -- others give the silent run
+otherwise_silent : (check : Result (Unit {0}) RunFault) (run : Run) → SilentOtherwise check (when_run check run)
+otherwise_silent (Ok tt) run failed = absurd (failed refl)
+otherwise_silent (Err e) run failed = (refl, refl, λ a i. refl)
+
 pub table_failed_run : (bytes : List ℕ) (e : RunFault) → table_check bytes ≡ Err e → table_run bytes ≡ looped 0 1 (words_say [])
 unfolding table_run
 table_failed_run bytes e p = rw p (ap (looped 0 1) (fun_ext (λ a. fun_ext (λ i. sym (ap (λ n. eqb (n % 2) 1) (zero-div (2 ^ a)))))))
@@ -58,3 +60,12 @@ table_failed_run bytes e p = rw p (ap (looped 0 1) (fun_ext (λ a. fun_ext (λ i
 pub pulses_failed_run : (bytes : List ℕ) (e : RunFault) → pulse_check bytes ≡ Err e → pulse_run bytes ≡ looped 0 1 (pulsed (pulse_in []) 0)
 unfolding pulse_run
 pulses_failed_run bytes e p = rw p
+
+-- which is silent at every position
+pub table_silent : (bytes : List ℕ) → SilentOtherwise (table_check bytes) (table_run bytes)
+unfolding table_run
+table_silent bytes = otherwise_silent (table_check bytes) _
+
+pub pulses_silent : (bytes : List ℕ) → SilentOtherwise (pulse_check bytes) (pulse_run bytes)
+unfolding pulse_run
+pulses_silent bytes = otherwise_silent (pulse_check bytes) _

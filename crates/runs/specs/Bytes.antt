@@ -5,6 +5,6 @@ use Rattle.std.specs.Prelude.{ℕ, ◌+◌, ◌*◌, List, slice_index}
 abbrev pub word : List ℕ → ℕ → ℕ
 word bytes at = slice_index bytes at + 256 * slice_index bytes (at + 1)
 
--- the number in the four bytes from a place on
+-- the number in the four bytes from a place on: what elsewhere is called a word of 32 bits
 abbrev pub double_word : List ℕ → ℕ → ℕ
 double_word bytes at = word bytes at + 65536 * word bytes (at + 2)

@@ -1,9 +1,14 @@
--- The rules of pulse runs.
+-- The rules of table runs and of pulse runs, for bytes that are to give one.
 use Rattle.std.specs.Prelude.{◌≡◌, ℕ, ◌+◌, ◌*◌, ◌%◌, ◌<◌, ◌≤◌, List, length, drop}
 use Rattle.runs.specs.Bytes.{word}
 use Rattle.runs.specs.Pulses.{pulse_at}
 
--- bytes with a loop and n pulses, whose atoms rise; every period is a part of the loop
+-- bytes with a stem, a loop that is not empty, and four bytes for each position up to the loop's end
+pub record TableRules (bytes : List ℕ) : Type 0 where
+  pub long : length bytes ≡ 4 + 4 * (word bytes 0 + word bytes 2)
+  pub turns : 0 < word bytes 2
+
+-- bytes with a loop and n pulses, whose atoms rise; every period divides the loop
 pub record PulseRules (bytes : List ℕ) (n : ℕ) : Type 0 where
   pub long : length bytes ≡ 2 + 8 * n
   pub turns : 0 < word bytes 0

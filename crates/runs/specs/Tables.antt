@@ -1,4 +1,4 @@
--- Table runs: the stem, the loop, and a word of 32 bits for each position up to the loop's end.
+-- Table runs: the stem, the loop, and a word of 32 bits, in four bytes, for each position up to the loop's end.
 use Rattle.std.specs.Prelude.{ℕ, ◌+◌, ◌*◌, ◌/◌, ◌%◌, ◌^◌, Bool, cond, List, [], length, drop, slice_index_or, Ok, Err, Result, ◌==◌, nat_lt}
 use Rattle.logic.specs.Run.{Run}
 use Rattle.runs.specs.declared.fault.RunFault.{RunFault}

@@ -1,9 +1,12 @@
 // Run sources: where a looped run is read from, and what each of them tells of it.
 #![tactic(auto)]
 
-ghost use Rattle.std.specs.Prelude.{◌≡◌, ℕ, ◌↔◌, List, Ok};
+ghost use Rattle.std.specs.Prelude.{◌≡◌, ◌≢◌, ℕ, ◌+◌, ◌*◌, ◌↔◌, List, length, Ok, Err};
+ghost use Rattle.runs.specs.declared.fault.RunFault.TheVariants.{WrongLength};
+ghost use Rattle.runs.specs.Bytes.{word};
 ghost use Rattle.runs.specs.Pulses.{pulse_check};
-ghost use Rattle.runs.specs.Rules.{PulseRules};
+ghost use Rattle.runs.specs.Tables.{table_check};
+ghost use Rattle.runs.specs.Rules.{TableRules, PulseRules};
 
 mod fault;
 mod looped;
@@ -17,8 +20,16 @@ pub use pulses::PulseRun;
 pub use source::RunSource;
 pub use table::TableRun;
 
-// Bytes pass the check of pulse runs exactly if they keep the rules.
-#[tactic(auto, using(crate::proofs::Ruled::ruled))]
+// Bytes pass the check of table runs exactly if they keep the rules, and have the wrong length exactly if it is not that of
+// their stem and loop.
+pub fn table_rules_are_checked()
+    ensures passing { (bytes : List ℕ) → (table_check bytes ≡ Ok tt) ↔ TableRules bytes }
+    ensures wrong_length { (bytes : List ℕ) → (table_check bytes ≡ Err WrongLength) ↔ (length bytes ≢ 4 + 4 * (word bytes 0 + word bytes 2)) }
+{}
+
+// Bytes pass the check of pulse runs exactly if they keep the rules, and have the wrong length exactly if it is not that of
+// a loop and any number of pulses.
 pub fn pulse_rules_are_checked()
-    ensures { (bytes : List ℕ) → (pulse_check bytes ≡ Ok tt) ↔ ((n : ℕ) × PulseRules bytes n) }
+    ensures passing { (bytes : List ℕ) → (pulse_check bytes ≡ Ok tt) ↔ ((n : ℕ) × PulseRules bytes n) }
+    ensures wrong_length { (bytes : List ℕ) → (pulse_check bytes ≡ Err WrongLength) ↔ ((n : ℕ) → length bytes ≢ 2 + 8 * n) }
 {}

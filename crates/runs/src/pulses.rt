@@ -1,6 +1,6 @@
 // Runs that are given by pulses.
 ghost use Rattle.std.specs.Prelude.{◌≡◌, ℕ, true, length};
-ghost use Rattle.runs.specs.AsGiven.{PulsesAllAlong};
+ghost use Rattle.runs.specs.AsGiven.{PulsesAllAlong, SilentOtherwise};
 ghost use Rattle.runs.specs.Meanings.{GivesRun, pulse_meaning};
 ghost use Rattle.runs.specs.Pulses.{pulse_in, pulsed, in_order, latest, FindsPulse, pulse_check, pulse_run};
 
@@ -27,6 +27,7 @@ impl<'a> PulseRun<'a> {
     pub fn new(bytes: &'a [u8]) -> PulseRun<'a>
         ensures run { pulse_meaning result ≡ pulse_run bytes.now }
         ensures along { PulsesAllAlong bytes.now }
+        ensures otherwise { SilentOtherwise (pulse_check bytes.now) (pulse_run bytes.now) }
     {
         PulseRun::try_from(bytes).unwrap_or(Looped::of_one_position(Pulses(&[])))
     }

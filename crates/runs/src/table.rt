@@ -1,6 +1,6 @@
 // Runs that are given position by position.
 ghost use Rattle.std.specs.Prelude.{◌≡◌, true};
-ghost use Rattle.runs.specs.AsGiven.{TablesAsGiven};
+ghost use Rattle.runs.specs.AsGiven.{TablesAsGiven, SilentOtherwise};
 ghost use Rattle.runs.specs.Meanings.{GivesRun, table_meaning};
 ghost use Rattle.runs.specs.Tables.{table_check, table_run, words_say};
 
@@ -26,6 +26,7 @@ impl<'a> TableRun<'a> {
     pub fn new(bytes: &'a [u8]) -> TableRun<'a>
         ensures run { table_meaning result ≡ table_run bytes.now }
         ensures given { TablesAsGiven bytes.now }
+        ensures otherwise { SilentOtherwise (table_check bytes.now) (table_run bytes.now) }
     {
         TableRun::try_from(bytes).unwrap_or(Looped::of_one_position(Words(&[])))
     }

@@ -10,27 +10,28 @@ use Rattle.formulas.specs.declared.entry.Entry.{Entry}
 use Rattle.formulas.specs.declared.entry.Entry.TheVariants.{False, Atom, Implies, Next, Always}
 use Rattle.formulas.specs.Adding.{Distinct, place}
 use Rattle.formulas.specs.Entries.{placed}
-use Rattle.formulas.specs.Decode.{of_entry, formula_at}
-use Rattle.formulas.proofs.Decoded.{formula_at_is, formula_injective}
+use Rattle.formulas.specs.Decode.{formula_at}
+use Rattle.formulas.proofs.Decoded.{formula_injective}
 use Rattle.formulas.proofs.Likeness.{same_tells}
 use Rattle.formulas.proofs.Members.{nth_within, nth_there, some_same}
 use Rattle.formulas.proofs.Places.{place_only}
-use Rattle.rows.specs.Row.{pack, bit, row_of, all_from}
+use Rattle.rows.specs.Row.{pack, bit, row_of, true_from}
 use Rattle.rows.proofs.Bits.{bit_pack, pack_lt}
-use Rattle.rows.proofs.Rows.{said, row_of_same, all_from_true, all_from_at}
+use Rattle.rows.proofs.Rows.{said, row_of_same, true_from_true, true_from_at}
 use Rattle.calculus.specs.Tautology.{eval, Tautology}
 use Rattle.calculus.specs.PrimeParts.{PrimePart}
 use Rattle.calculus.proofs.Tautologies.{agreed}
 use Rattle.tautologies.specs.declared.step.Step.{Step}
 use Rattle.tautologies.specs.Gathering.{Entered, Gathered, Marked, formulas_at}
-use Rattle.tautologies.specs.Planning.{steps_below, row_numbered, stepped, followed, Cleared}
-use Rattle.tautologies.specs.Choosing.{bit_if, chosen, choice_row}
-use Rattle.tautologies.proofs.Marks.{member_part, part_member}
+use Rattle.tautologies.specs.Planning.{steps_below, row_numbered, stepped, followed}
+use Rattle.tautologies.specs.Choosing.{choice_row}
+use Rattle.tautologies.proofs.Chosen.{bit_if, chosen, Cleared}
+use Rattle.tautologies.proofs.Marks.{member_part, part_member, formula_is}
 use Rattle.tautologies.proofs.Plans.{steps_none, steps_marked, steps_other, steps_unmarked, followed_append, followed_none, followed_one, followed_length}
 
 -- the row of a formula under the choices of a block
-abbrev pub truth_row : List Formula → ℕ → Formula → List ℕ
-truth_row ps block A = row_of (λ i. eval (chosen ps (256 * block + i)) A)
+abbrev pub row_under_choices : List Formula → ℕ → Formula → List ℕ
+row_under_choices ps block A = row_of (λ i. eval (chosen ps (256 * block + i)) A)
 
 -- entry n is no implication
 abbrev pub Simple : List Entry → ℕ → Type 0
@@ -55,15 +56,12 @@ module _ (es : List Entry) (entered : Entered es) (seen : List Bool) (parts : Li
 
   -- the rows of marked entries below n, and of those that are no implications, are there
   abbrev pub Told : ℕ → ℕ → List (List ℕ) → Type 0
-  Told block n rows = (j : ℕ) → Marked seen j → (j < n) ⊎ Simple es j → row_numbered rows j ≡ truth_row (formulas_at es parts) block (formula_at es j)
+  Told block n rows = (j : ℕ) → Marked seen j → (j < n) ⊎ Simple es j → row_numbered rows j ≡ row_under_choices (formulas_at es parts) block (formula_at es j)
 
   module _ (n : ℕ) (m : Marked seen n) where
-    is_entry : (e : Entry) → get_or es n False ≡ e → formula_at es n ≡ of_entry (formula_at es) e
-    is_entry e is = formula_at_is es entered.lower n (g.entered n m) ∙ ap (of_entry (formula_at es)) is
-
     -- a prime part has the row that is written
     part_row : (block : ℕ) (rows : List (List ℕ)) → Written block rows → (A : Formula) → formula_at es n ≡ A → PrimePart A A
-        → ((v : Formula → Bool) → eval v A ≡ v A) → row_numbered rows n ≡ truth_row (formulas_at es parts) block (formula_at es n)
+        → ((v : Formula → Bool) → eval v A ≡ v A) → row_numbered rows n ≡ row_under_choices (formulas_at es parts) block (formula_at es n)
     part_row block rows written A is own stands =
         let ps = formulas_at es parts in
         let has = g.gathered n m A (subst (λ (X : Formula). PrimePart X A) (sym is) own) in
@@ -73,17 +71,17 @@ module _ (es : List Entry) (entered : Entered es) (seen : List Bool) (parts : Li
         let placed : place same ps A ≡ Some has.0 = place_only same same_tells ps A distinct_formulas has.0 has.1 in
         written has.0 n (subst (λ (k : ℕ). slice_get parts has.0 ≡ Some k) one part.1)
         ∙ row_of_same _ _ (λ i _. sym (stands (chosen ps (256 * block + i)) ∙ ap (bit_if (256 * block + i)) placed))
-        ∙ ap (truth_row ps block) (sym is)
+        ∙ ap (row_under_choices ps block) (sym is)
 
     start_by : (block : ℕ) (rows : List (List ℕ)) → Cleared es seen rows → Written block rows → Simple es n
-        → (e : Entry) → get_or es n False ≡ e → row_numbered rows n ≡ truth_row (formulas_at es parts) block (formula_at es n)
+        → (e : Entry) → get_or es n False ≡ e → row_numbered rows n ≡ row_under_choices (formulas_at es parts) block (formula_at es n)
     start_by block rows cleared written simple False is =
-        let none : formula_at es n ≡ falsum = is_entry False is in
-        cleared n m none ∙ sym (ap (truth_row (formulas_at es parts) block) none)
-    start_by block rows cleared written simple (Atom a) is = part_row block rows written (atom a) (is_entry (Atom a) is) refl (λ v. refl)
+        let none : formula_at es n ≡ falsum = formula_is es entered n (g.entered n m) False is in
+        cleared n m none ∙ sym (ap (row_under_choices (formulas_at es parts) block) none)
+    start_by block rows cleared written simple (Atom a) is = part_row block rows written (atom a) (formula_is es entered n (g.entered n m) (Atom a) is) refl (λ v. refl)
     start_by block rows cleared written simple (Implies a b) is = absurd (simple a b is)
-    start_by block rows cleared written simple (Next a) is = part_row block rows written (next (formula_at es a)) (is_entry (Next a) is) refl (λ v. refl)
-    start_by block rows cleared written simple (Always a) is = part_row block rows written (always (formula_at es a)) (is_entry (Always a) is) refl (λ v. refl)
+    start_by block rows cleared written simple (Next a) is = part_row block rows written (next (formula_at es a)) (formula_is es entered n (g.entered n m) (Next a) is) refl (λ v. refl)
+    start_by block rows cleared written simple (Always a) is = part_row block rows written (always (formula_at es a)) (formula_is es entered n (g.entered n m) (Always a) is) refl (λ v. refl)
 
   -- at the start of a block, all rows of entries that are no implications are there
   pub start : (block : ℕ) (rows : List (List ℕ)) → Cleared es seen rows → Written block rows → Told block 0 rows
@@ -107,14 +105,14 @@ module _ (es : List Entry) (entered : Entered es) (seen : List Bool) (parts : Li
       let lower = and_parts (ltb a n) (ltb b n) (subst (λ (e : Entry). placed n e ≡ true) is (entered.lower n (g.entered n m))) in
       let left = told a both.0 (inl (ltb-true a n lower.0)) in
       let right = told b both.1 (inl (ltb-true b n lower.1)) in
-      let whole : formula_at es n ≡ implies (formula_at es a) (formula_at es b) = is_entry n m (Implies a b) is in
+      let whole : formula_at es n ≡ implies (formula_at es a) (formula_at es b) = formula_is es entered n (g.entered n m) (Implies a b) is in
       elim (cases_eq j n) [
         | inl e ↦
-            let here : row_numbered (set rows n made) n ≡ truth_row ps block (formula_at es n) =
+            let here : row_numbered (set rows n made) n ≡ row_under_choices ps block (formula_at es n) =
             get_or-set_same rows n made [] room
             ∙ row_of_same _ _ (λ i h. ap₂ (λ x y. not x || y) (said (row_numbered rows a) _ left i h) (said (row_numbered rows b) _ right i h))
-            ∙ ap (truth_row ps block) (sym whole) in
-            subst (λ (k : ℕ). row_numbered (set rows n made) k ≡ truth_row ps block (formula_at es k)) (sym e) here
+            ∙ ap (row_under_choices ps block) (sym whole) in
+            subst (λ (k : ℕ). row_numbered (set rows n made) k ≡ row_under_choices ps block (formula_at es k)) (sym e) here
         | inr ne ↦ get_or-set_other rows n j made [] ne ∙ told j mj (elim which [ inl before ↦ inl (omega (arith, ne)) | inr s ↦ inr s ])
       ]
 
@@ -157,7 +155,7 @@ module _ (es : List Entry) (entered : Entered es) (seen : List Bool) (parts : Li
   pub worked : (block : ℕ) (old rows end : List (List ℕ)) (steps : List Step) → length rows ≡ 1024 → Cleared es seen old → Written block rows
       → ((n : ℕ) → ((k : ℕ) → slice_get parts k ≡ Some n → ⊥) → row_numbered rows n ≡ row_numbered old n)
       → end ≡ followed steps rows → steps ≡ steps_below es seen (length es)
-      → (n : ℕ) → Marked seen n → row_numbered end n ≡ truth_row (formulas_at es parts) block (formula_at es n)
+      → (n : ℕ) → Marked seen n → row_numbered end n ≡ row_under_choices (formulas_at es parts) block (formula_at es n)
   worked block old rows end steps room cleared written others made are n m =
       ap (λ (rs : List (List ℕ)). row_numbered rs n) (made ∙ ap (λ (ss : List Step). followed ss rows) are)
       ∙ all_told block rows (omega (arith, entered.within)) (start block rows kept written) (length es) n m (inl (g.entered n m))
@@ -166,8 +164,8 @@ module _ (es : List Entry) (entered : Entered es) (seen : List Bool) (parts : Li
       kept j mj none = others j (λ k is. (g.met k j is).1 none) ∙ cleared j mj none
 
   -- so that rows of what is false stay empty
-  pub cleared_again : (block : ℕ) (rows : List (List ℕ)) → ((n : ℕ) → Marked seen n → row_numbered rows n ≡ truth_row (formulas_at es parts) block (formula_at es n)) → Cleared es seen rows
-  cleared_again block rows told n m none = told n m ∙ ap (truth_row (formulas_at es parts) block) none
+  pub cleared_again : (block : ℕ) (rows : List (List ℕ)) → ((n : ℕ) → Marked seen n → row_numbered rows n ≡ row_under_choices (formulas_at es parts) block (formula_at es n)) → Cleared es seen rows
+  cleared_again block rows told n m none = told n m ∙ ap (row_under_choices (formulas_at es parts) block) none
 
   -- a formula that is true under each numbered choice is a tautology
   pub every_choice : (n : ℕ) → Marked seen n → ((v : ℕ) → v < 2 ^ length parts → eval (chosen (formulas_at es parts) v) (formula_at es n) ≡ true) → Tautology (formula_at es n)
@@ -183,13 +181,13 @@ module _ (es : List Entry) (entered : Entered es) (seen : List Bool) (parts : Li
       ∙ numbered v (pack_lt (length parts) f)
 
 -- what a block's row tells
-module _ (ps : List Formula) (block : ℕ) (A : Formula) (row : List ℕ) (is : row ≡ truth_row ps block A) where
-  pub full_block : all_from (bit row) 0 256 ≡ true → (v : ℕ) → 256 * block ≤ v → v < 256 * (block + 1) → eval (chosen ps v) A ≡ true
+module _ (ps : List Formula) (block : ℕ) (A : Formula) (row : List ℕ) (is : row ≡ row_under_choices ps block A) where
+  pub full_block : true_from 256 0 (bit row) ≡ true → (v : ℕ) → 256 * block ≤ v → v < 256 * (block + 1) → eval (chosen ps v) A ≡ true
   full_block full v low high =
       let i : ℕ = v - 256 * block in
       let e : 256 * block + i ≡ v = omega arith in
-      ap (λ (u : ℕ). eval (chosen ps u) A) (sym e) ∙ sym (said row _ is i (omega arith)) ∙ all_from_at (bit row) 0 256 i full (omega arith) (omega arith)
+      ap (λ (u : ℕ). eval (chosen ps u) A) (sym e) ∙ sym (said row _ is i (omega arith)) ∙ true_from_at (bit row) 0 256 i full (omega arith) (omega arith)
 
-  pub not_full : all_from (bit row) 0 256 ≡ false → Tautology A → ⊥
+  pub not_full : true_from 256 0 (bit row) ≡ false → Tautology A → ⊥
   not_full some holds =
-      both_ways (all_from (bit row) 0 256) some (all_from_true (bit row) 0 256 (λ j _ h. said row _ is j (omega arith) ∙ holds (chosen ps (256 * block + j))))
+      both_ways (true_from 256 0 (bit row)) some (true_from_true (bit row) 0 256 (λ j _ h. said row _ is j (omega arith) ∙ holds (chosen ps (256 * block + j))))

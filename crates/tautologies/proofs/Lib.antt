@@ -1,5 +1,6 @@
 mod Marks
 mod Plans
+mod Chosen
 mod Choices
 mod Blocks
 mod Verdicts

@@ -3,16 +3,18 @@ use Rattle.std.proofs.Common.{◌≡◌, ℕ, ◌<◌, ◌≤◌, Bool, true, fa
 use Rattle.std.specs.List.{slice_get}
 use Rattle.std.specs.Option.{option_map}
 use Rattle.std.proofs.lemmas.Bool.{cases_eq, cases_lt, true≢false}
+use Rattle.std.proofs.lemmas.Option.{slice_get-map}
 use Rattle.std.proofs.lemmas.List.{length-map, map-append, length_push, get_or-replicate, get_or_past, length-replicate}
 use Rattle.logic.specs.Formula.{Formula, falsum, implies}
 use Rattle.formulas.specs.declared.entry.Entry.{Entry}
 use Rattle.formulas.specs.declared.entry.Entry.TheVariants.{False, Atom, Implies, Next, Always}
+use Rattle.formulas.specs.Adding.{Member}
 use Rattle.formulas.specs.Decode.{of_entry, formula_at}
 use Rattle.formulas.proofs.Decoded.{formula_at_is, formula_injective}
-use Rattle.formulas.proofs.Members.{some_same, some_not_none, nth_within, nth_there, nth_map, nth_push, nth_pushed, nth_stays, distinct_push}
+use Rattle.formulas.proofs.Members.{some_same, some_not_none, nth_within, nth_there, nth_push, nth_pushed, nth_stays, distinct_push}
 use Rattle.calculus.specs.PrimeParts.{PrimePart, add, gathered}
 use Rattle.calculus.proofs.Parts.{add_new, gathered_old, gathered_longer}
-use Rattle.tautologies.specs.Gathering.{Entered, Gathered, Marked, Member, formulas_at}
+use Rattle.tautologies.specs.Gathering.{Entered, Gathered, Marked, formulas_at}
 
 -- ---- parts and their formulas
 
@@ -21,10 +23,10 @@ pub member_part : (es : List Entry) (parts : List ℕ) (k : ℕ) {P : Formula} �
     → (n : ℕ) × (slice_get parts k ≡ Some n) × (formula_at es n ≡ P)
 member_part es parts k is =
     let there = nth_there parts k (omega (arith, nth_within (formulas_at es parts) k is, length-map parts (formula_at es))) in
-    (there.0, there.1, some_same (sym (ap (option_map (formula_at es)) there.1) ∙ sym (nth_map (formula_at es) parts k) ∙ is))
+    (there.0, there.1, some_same (sym (ap (option_map (formula_at es)) there.1) ∙ sym (slice_get-map (formula_at es) parts k) ∙ is))
 
 pub part_member : (es : List Entry) (parts : List ℕ) (k n : ℕ) → slice_get parts k ≡ Some n → slice_get (formulas_at es parts) k ≡ Some (formula_at es n)
-part_member es parts k n is = nth_map (formula_at es) parts k ∙ ap (option_map (formula_at es)) is
+part_member es parts k n is = slice_get-map (formula_at es) parts k ∙ ap (option_map (formula_at es)) is
 
 -- ---- marks
 
@@ -69,6 +71,10 @@ module _ (es : List Entry) (seen : List Bool) (parts : List ℕ) (n : ℕ) (room
     once = g.once;
   }
 
+-- how an entry is that is a part itself
+abbrev pub Kinds : Entry → Type 0
+Kinds e = ((a : ℕ) × (e ≡ Atom a)) ⊎ (((a : ℕ) × (e ≡ Next a)) ⊎ ((a : ℕ) × (e ≡ Always a)))
+
 -- an entry with a formula that is its own prime part
 pub record Lone (e : Entry) (A : Formula) : Type 0 where
   pub gathers : (ps : List Formula) → gathered ps A ≡ add ps A
@@ -76,7 +82,7 @@ pub record Lone (e : Entry) (A : Formula) : Type 0 where
   pub not_false : A ≢ falsum
   pub no_operands : (a b : ℕ) → e ≡ Implies a b → ⊥
 
-pub lone : (at : ℕ → Formula) (e : Entry) → ((a : ℕ) × (e ≡ Atom a)) ⊎ (((a : ℕ) × (e ≡ Next a)) ⊎ ((a : ℕ) × (e ≡ Always a))) → Lone e (of_entry at e)
+pub lone : (at : ℕ → Formula) (e : Entry) → Kinds e → Lone e (of_entry at e)
 lone at e (inl (a, is)) = subst (λ (x : Entry). Lone x (of_entry at x)) (sym is) (record { gathers = λ ps. refl; only = λ P p. p; not_false = λ f. cc; no_operands = λ b c i. cc })
 lone at e (inr (inl (a, is))) = subst (λ (x : Entry). Lone x (of_entry at x)) (sym is) (record { gathers = λ ps. refl; only = λ P p. p; not_false = λ f. cc; no_operands = λ b c i. cc })
 lone at e (inr (inr (a, is))) = subst (λ (x : Entry). Lone x (of_entry at x)) (sym is) (record { gathers = λ ps. refl; only = λ P p. p; not_false = λ f. cc; no_operands = λ b c i. cc })
@@ -138,7 +144,8 @@ pub old_parts : (es : List Entry) (seen : List Bool) (parts : List ℕ) (n : ℕ
 old_parts es seen parts n g m = sym (gathered_old (formulas_at es parts) (formula_at es n) (g.gathered n m))
 
 module _ (es : List Entry) (entered : Entered es) (n : ℕ) (there : n < length es) where
-  formula_is : (e : Entry) → get_or es n False ≡ e → formula_at es n ≡ of_entry (formula_at es) e
+  -- an entry's formula, by those of its operands
+  pub formula_is : (e : Entry) → get_or es n False ≡ e → formula_at es n ≡ of_entry (formula_at es) e
   formula_is e is = formula_at_is es entered.lower n there ∙ ap (of_entry (formula_at es)) is
 
   pub ended_false : (seen : List Bool) (parts : List ℕ) → n < length seen → Gathered es seen parts → get_or es n False ≡ False → Ended es n parts parts seen
@@ -168,11 +175,11 @@ module _ (es : List Entry) (entered : Entered es) (n : ℕ) (there : n < length 
       }
 
   -- the formula is its own part
-  alone : ((a : ℕ) × (get_or es n False ≡ Atom a)) ⊎ (((a : ℕ) × (get_or es n False ≡ Next a)) ⊎ ((a : ℕ) × (get_or es n False ≡ Always a))) → Lone (get_or es n False) (formula_at es n)
+  alone : Kinds (get_or es n False) → Lone (get_or es n False) (formula_at es n)
   alone kinds = subst (Lone (get_or es n False)) (sym (formula_at_is es entered.lower n there)) (lone (formula_at es) (get_or es n False) kinds)
 
   pub ended_part : (seen : List Bool) (parts : List ℕ) → n < length seen → Gathered es seen parts → (Marked seen n → ⊥)
-      → ((a : ℕ) × (get_or es n False ≡ Atom a)) ⊎ (((a : ℕ) × (get_or es n False ≡ Next a)) ⊎ ((a : ℕ) × (get_or es n False ≡ Always a)))
+      → Kinds (get_or es n False)
       → Ended es n parts (parts ++ n ∷ []) seen
   ended_part seen parts room g new kinds = record {
     parted = parted es entered seen parts n room g there new (alone kinds);
@@ -181,7 +188,7 @@ module _ (es : List Entry) (entered : Entered es) (n : ℕ) (there : n < length 
 
   -- a part that finds no room
   pub over_part : (seen : List Bool) (parts : List ℕ) → n < length seen → Gathered es seen parts → (Marked seen n → ⊥)
-      → ((a : ℕ) × (get_or es n False ≡ Atom a)) ⊎ (((a : ℕ) × (get_or es n False ≡ Next a)) ⊎ ((a : ℕ) × (get_or es n False ≡ Always a)))
+      → Kinds (get_or es n False)
       → 12 ≤ length parts → 12 < length (gathered (formulas_at es parts) (formula_at es n))
   over_part seen parts room g new kinds full =
       let more = ap (length {A = Formula}) (parted es entered seen parts n room g there new (alone kinds)) in

@@ -9,7 +9,7 @@ use Rattle.formulas.specs.Entries.{placed, Lower}
 use Rattle.formulas.proofs.Members.{every_push, some_not_none}
 use Rattle.rows.specs.Row.{bit, row_of}
 use Rattle.tautologies.specs.declared.step.Step.{Step}
-use Rattle.tautologies.specs.Planning.{step_of, steps_below, row_numbered, stepped, followed, Within}
+use Rattle.tautologies.specs.Planning.{step_of, steps_below, row_numbered, stepped, followed, RowsThere}
 
 -- ---- the steps, entry by entry
 
@@ -62,17 +62,17 @@ steps_other es seen n m none =
 
 -- each step is between rows that are there
 module _ (es : List Entry) (seen : List Bool) (lower : Lower es) (few : length es ≤ 1024) where
-  within_next : (n : ℕ) → n < length es → ((k : ℕ) (s : Step) → slice_get (steps_below es seen n) k ≡ Some s → Within s 1024)
-      → (k : ℕ) (s : Step) → slice_get (steps_below es seen (n + 1)) k ≡ Some s → Within s 1024
+  within_next : (n : ℕ) → n < length es → ((k : ℕ) (s : Step) → slice_get (steps_below es seen n) k ≡ Some s → RowsThere s 1024)
+      → (k : ℕ) (s : Step) → slice_get (steps_below es seen (n + 1)) k ≡ Some s → RowsThere s 1024
   within_next n there before = elim (cases_Bool (get_or seen n false)) [
     | inl m ↦ by m (get_or es n False) refl
     | inr none ↦ same (steps_unmarked es seen n none)
   ]
     where
-      same : {ss : List Step} → steps_below es seen n ≡ ss → (k : ℕ) (s : Step) → slice_get ss k ≡ Some s → Within s 1024
-      same is = subst (λ (qs : List Step). (k : ℕ) (s : Step) → slice_get qs k ≡ Some s → Within s 1024) is before
+      same : {ss : List Step} → steps_below es seen n ≡ ss → (k : ℕ) (s : Step) → slice_get ss k ≡ Some s → RowsThere s 1024
+      same is = subst (λ (qs : List Step). (k : ℕ) (s : Step) → slice_get qs k ≡ Some s → RowsThere s 1024) is before
 
-      by : get_or seen n false ≡ true → (e : Entry) → get_or es n False ≡ e → (k : ℕ) (s : Step) → slice_get (steps_below es seen (n + 1)) k ≡ Some s → Within s 1024
+      by : get_or seen n false ≡ true → (e : Entry) → get_or es n False ≡ e → (k : ℕ) (s : Step) → slice_get (steps_below es seen (n + 1)) k ≡ Some s → RowsThere s 1024
       by m False is = same (steps_other es seen n m (λ a b i. cc))
       by m (Atom c) is = same (steps_other es seen n m (λ a b i. cc))
       by m (Implies c d) is =
@@ -80,17 +80,17 @@ module _ (es : List Entry) (seen : List Bool) (lower : Lower es) (few : length e
           let left = ltb-true c n operands.0 in
           let right = ltb-true d n operands.1 in
           let step : Step = record { number = n; left = c; right = d } in
-          subst (λ (qs : List Step). (k : ℕ) (s : Step) → slice_get qs k ≡ Some s → Within s 1024) (steps_marked es seen n m is)
-          (every_push (λ (s : Step). Within s 1024) (steps_below es seen n) step before (record { number = omega arith; left = omega arith; right = omega arith }))
+          subst (λ (qs : List Step). (k : ℕ) (s : Step) → slice_get qs k ≡ Some s → RowsThere s 1024) (steps_marked es seen n m is)
+          (every_push (λ (s : Step). RowsThere s 1024) (steps_below es seen n) step before (record { number = omega arith; left = omega arith; right = omega arith }))
       by m (Next c) is = same (steps_other es seen n m (λ a b i. cc))
       by m (Always c) is = same (steps_other es seen n m (λ a b i. cc))
 
-  pub steps_within : (n : ℕ) → n ≤ length es → (k : ℕ) (s : Step) → slice_get (steps_below es seen n) k ≡ Some s → Within s 1024
+  pub steps_within : (n : ℕ) → n ≤ length es → (k : ℕ) (s : Step) → slice_get (steps_below es seen n) k ≡ Some s → RowsThere s 1024
   steps_within zero le =
-      subst (λ (qs : List Step). (k : ℕ) (s : Step) → slice_get qs k ≡ Some s → Within s 1024) (sym (steps_none es seen)) (λ k s is. absurd (some_not_none (sym is)))
+      subst (λ (qs : List Step). (k : ℕ) (s : Step) → slice_get qs k ≡ Some s → RowsThere s 1024) (sym (steps_none es seen)) (λ k s is. absurd (some_not_none (sym is)))
   steps_within (suc n) le =
       let more : n + 1 ≡ suc n = omega arith in
-      subst (λ (i : ℕ). (k : ℕ) (s : Step) → slice_get (steps_below es seen i) k ≡ Some s → Within s 1024) more (within_next n (omega arith) (steps_within n (omega arith)))
+      subst (λ (i : ℕ). (k : ℕ) (s : Step) → slice_get (steps_below es seen i) k ≡ Some s → RowsThere s 1024) more (within_next n (omega arith) (steps_within n (omega arith)))
 
 -- ---- following
 

@@ -1,6 +1,6 @@
 -- What is said of a formula, by its prime parts and by what it is under all choices.
 use Rattle.std.proofs.Common.{◌≡◌, ℕ, ◌<◌, ◌≤◌, false, cond, leb, ltb, List, length, get_or, sym, ap, ◌∙◌, inl, inr, arith}
-use Rattle.std.proofs.lemmas.Bool.{cases_Bool, cond-true, cond-false, lt-ltb, le-ltb, le-leb, lt-leb}
+use Rattle.std.proofs.lemmas.Bool.{cases_Bool, cond-true, cond-false, lt-ltb, le-ltb, le-leb}
 use Rattle.logic.specs.Formula.{Formula, falsum}
 use Rattle.formulas.specs.declared.entry.Entry.{Entry}
 use Rattle.formulas.specs.Decode.{formula_at, decoded}
@@ -9,6 +9,7 @@ use Rattle.calculus.specs.declared.verdict.Verdict.TheVariants.{Admitted, NotAdm
 use Rattle.calculus.specs.Tautology.{Tautology}
 use Rattle.calculus.specs.PrimeParts.{prime_parts, is_tautology}
 use Rattle.calculus.specs.Published.{taut_verdict}
+use Rattle.calculus.proofs.Exact.{taut_admitted, taut_limit}
 use Rattle.calculus.proofs.Tautologies.{tautology}
 use Rattle.tautologies.specs.Verdicts.{taut_verdict_in}
 
@@ -22,14 +23,14 @@ no_entry es n h = sym (cond-false (ltb n (length (decoded es))) (taut_verdict (g
 
 module _ (A : Formula) where
   pub beyond_limit : 12 < length (prime_parts A) → BeyondLimit ≡ taut_verdict A
-  beyond_limit many = sym (cond-false (leb (length (prime_parts A)) 12) (cond (is_tautology A) Admitted NotAdmitted) BeyondLimit (lt-leb (length (prime_parts A)) 12 many))
+  beyond_limit many = sym ((taut_limit A).1 many)
 
   module _ (few : length (prime_parts A) ≤ 12) where
     within : taut_verdict A ≡ cond (is_tautology A) Admitted NotAdmitted
     within = cond-true (leb (length (prime_parts A)) 12) (cond (is_tautology A) Admitted NotAdmitted) BeyondLimit (le-leb (length (prime_parts A)) 12 few)
 
     pub admitted : Tautology A → Admitted ≡ taut_verdict A
-    admitted holds = sym (within ∙ cond-true (is_tautology A) Admitted NotAdmitted ((tautology A).1 holds))
+    admitted holds = sym ((taut_admitted A).1 (holds, few))
 
     pub not_admitted : (Tautology A → ⊥) → NotAdmitted ≡ taut_verdict A
     not_admitted fails = sym (within ∙ cond-false (is_tautology A) Admitted NotAdmitted no)

@@ -1,18 +1,6 @@
--- Choices of truth by numbers: the bits of a number say which of some formulas are true.
-use Rattle.std.specs.Prelude.{ℕ, ◌+◌, ◌*◌, Bool, false, List, Some, None, Option}
-use Rattle.logic.specs.Formula.{Formula}
-use Rattle.logic.specs.Same.{same}
-use Rattle.formulas.specs.Adding.{place}
+-- Rows of choices of truth, which are numbered.
+use Rattle.std.specs.Prelude.{ℕ, ◌+◌, ◌*◌, List}
 use Rattle.rows.specs.Row.{testBit, row_of}
-
--- the bit at a place, if there is one
-abbrev pub bit_if : ℕ → Option ℕ → Bool
-bit_if v None = false
-bit_if v (Some k) = testBit v k
-
--- of the formulas of a list, the k-th is true where bit k of the number is set; others are false
-abbrev pub chosen : List Formula → ℕ → Formula → Bool
-chosen ps v P = bit_if v (place same ps P)
 
 -- bit k of each of the 256 numbers in a block
 abbrev pub choice_row : ℕ → ℕ → List ℕ

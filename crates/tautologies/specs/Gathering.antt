@@ -4,7 +4,7 @@ use Rattle.std.specs.List.{slice_get}
 use Rattle.logic.specs.Formula.{Formula, falsum}
 use Rattle.formulas.specs.declared.entry.Entry.{Entry}
 use Rattle.formulas.specs.declared.entry.Entry.TheVariants.{False, Implies}
-use Rattle.formulas.specs.Adding.{Distinct}
+use Rattle.formulas.specs.Adding.{Distinct, Member}
 use Rattle.formulas.specs.Entries.{Lower}
 use Rattle.formulas.specs.Decode.{formula_at}
 use Rattle.calculus.specs.PrimeParts.{PrimePart}
@@ -22,10 +22,6 @@ formulas_at es ns = map (formula_at es) ns
 -- an entry is marked
 abbrev pub Marked : List Bool → ℕ → Type 0
 Marked seen n = slice_index_or seen n false ≡ true
-
--- P is in a list
-abbrev pub Member : List Formula → Formula → Type 0
-Member ps P = (k : ℕ) × (slice_get ps k ≡ Some P)
 
 -- marked entries have their prime parts among the parts, and their operands are marked; a part is marked, is not false, and stands once
 pub record Gathered (es : List Entry) (seen : List Bool) (parts : List ℕ) : Type 0 where

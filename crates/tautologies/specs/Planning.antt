@@ -1,10 +1,7 @@
 -- The steps by which the rows of implications are made, and what following them does.
-use Rattle.std.specs.Prelude.{◌≡◌, ℕ, zero, suc, ◌<◌, Bool, false, cond, not, ◌||◌, List, [], ◌∷◌, ◌++◌, slice_index_or, slice_set}
+use Rattle.std.specs.Prelude.{ℕ, zero, suc, ◌<◌, Bool, false, cond, not, ◌||◌, List, [], ◌∷◌, ◌++◌, slice_index_or, slice_set}
 use Rattle.formulas.specs.declared.entry.Entry.{Entry}
 use Rattle.formulas.specs.declared.entry.Entry.TheVariants.{False, Atom, Implies, Next, Always}
-use Rattle.formulas.specs.Decode.{formula_at}
-use Rattle.logic.specs.Formula.{falsum}
-use Rattle.tautologies.specs.Gathering.{Marked}
 use Rattle.rows.specs.Row.{bit, row_of}
 use Rattle.tautologies.specs.declared.step.Step.{Step}
 
@@ -35,11 +32,7 @@ followed [] rows = rows
 followed (s ∷ ss) rows = followed ss (stepped s rows)
 
 -- its rows are there
-pub record Within (s : Step) (rows : ℕ) : Type 0 where
+pub record RowsThere (s : Step) (rows : ℕ) : Type 0 where
   pub number : s.number < rows
   pub left : s.left < rows
   pub right : s.right < rows
-
--- the rows of marked entries that are false say so
-abbrev pub Cleared : List Entry → List Bool → List (List ℕ) → Type 0
-Cleared es seen rows = (n : ℕ) → Marked seen n → formula_at es n ≡ falsum → row_numbered rows n ≡ row_of (λ i. false)

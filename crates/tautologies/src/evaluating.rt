@@ -5,7 +5,7 @@ ghost use Rattle.formulas.specs.Adding.{Distinct};
 ghost use Rattle.formulas.specs.Decode.{formula_at};
 ghost use Rattle.calculus.specs.Tautology.{Tautology};
 ghost use Rattle.tautologies.specs.Gathering.{Entered, Gathered, Marked};
-ghost use Rattle.tautologies.specs.Planning.{Within, followed, row_numbered};
+ghost use Rattle.tautologies.specs.Planning.{RowsThere, followed, row_numbered};
 ghost use Rattle.tautologies.specs.Choosing.{choice_row};
 ghost use Rattle.tautologies.specs.declared.step.Step.{Step};
 
@@ -15,6 +15,9 @@ use crate::planning::plan;
 use crate::step::Step;
 use formulas::Entry;
 use rows::{EMPTY, Row, implies_throughout, is_full};
+
+// A pair of blocks has all choices for so many parts.
+const PAIR_PARTS: usize = 9;
 
 // Whether the formula of an entry is true under every choice of truth for its prime parts, which are gathered.
 pub(crate) fn true_everywhere(
@@ -50,7 +53,11 @@ fn pairs(parts: usize) -> usize
     ensures few { result ≤ 8 }
     ensures all { 2 ^ parts ≤ 512 * result }
 {
-    if parts <= 9 { 1 } else { 1 << (parts - 9) }
+    if parts <= PAIR_PARTS {
+        1
+    } else {
+        1 << (parts - PAIR_PARTS)
+    }
 }
 
 // Writes the rows of the parts in a block.
@@ -70,7 +77,7 @@ fn choose(block: usize, parts: &[u16], rows: &mut [Row; ENTRIES])
 // Makes the rows of implications in two blocks, step by step.
 // Two at once, since a step often waits for the row that the one before it wrote: the other block's is made meanwhile.
 fn follow(steps: &[Step], even: &mut [Row; ENTRIES], odd: &mut [Row; ENTRIES])
-    requires { (k : ℕ) (s : Step) → slice_get steps.now k ≡ Some s → Within s 1024 }
+    requires { (k : ℕ) (s : Step) → slice_get steps.now k ≡ Some s → RowsThere s 1024 }
     ensures even { even.new ≡ followed steps.now even.old }
     ensures odd { odd.new ≡ followed steps.now odd.old }
 {

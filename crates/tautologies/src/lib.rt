@@ -7,7 +7,7 @@ ghost use Rattle.tautologies.specs.Verdicts.{taut_verdict_in};
 
 use calculus::Verdict;
 use evaluating::true_everywhere;
-use formulas::FormulaList;
+use formulas::{FORMULAS, FormulaList};
 use gathering::{Parts, TooMany, gather};
 
 mod choosing;
@@ -18,7 +18,7 @@ mod short_list;
 mod step;
 
 // A formula list has no more entries.
-pub(crate) const ENTRIES: usize = 1024;
+pub(crate) const ENTRIES: usize = FORMULAS as usize;
 
 // What a page says of the formula with a number as a tautology. Not admitted if it is not in the list.
 pub fn taut_verdict(formulas: &FormulaList, number: u16) -> Verdict

@@ -8,8 +8,32 @@ use Rattle.logic.specs.Decide.{truth}
 use Rattle.formulas.specs.Forming.{numbered}
 use Rattle.rows.specs.Row.{bit, testBit}
 use Rattle.rows.proofs.Rows.{length_row_of, bit_row_of, bit_past}
-use Rattle.truths.specs.Along.{truth_row, rows_along, with_rows, row_says}
-use Rattle.truths.specs.Steps.{row_at}
+use Rattle.truths.specs.Along.{truth_row, rows_along, with_rows, row_at, row_says}
+
+-- ---- one row in the words
+
+-- the row with a number, word by word
+word_of : (words : List ℕ) (n k : ℕ) → get_or (row_at words n) k 0 ≡ get_or (take 4 (drop (4 * n) words)) k 0
+word_of words n k = ⊎_elim (λ (h : k < 4). near k h ∙ sym (get_or-take 4 (drop (4 * n) words) k 0 h ∙ get_or-drop (4 * n) words k 0))
+    (λ (h : 4 ≤ k). get_or_past (row_at words n) k 0 h ∙ sym (get_or_past (take 4 (drop (4 * n) words)) k 0 (omega (arith, length-take 4 (drop (4 * n) words)))))
+    (cases_lt k 4)
+  where
+    near : (k : ℕ) → k < 4 → get_or (row_at words n) k 0 ≡ get_or words (4 * n + k) 0
+    near zero h = ap (λ m. get_or words m 0) (omega arith)
+    near (suc zero) h = refl
+    near (suc (suc zero)) h = refl
+    near (suc (suc (suc zero))) h = refl
+    near (suc (suc (suc (suc k)))) h = absurd (omega arith)
+
+by_place : (words : List ℕ) (n i : ℕ) → bit (row_at words n) i ≡ bit (take 4 (drop (4 * n) words)) i
+unfolding bit
+by_place words n i = ap (λ w. testBit w (i % 64)) (word_of words n (i / 64))
+
+pub row_at_says : (words : List ℕ) (n i : ℕ) → bit (row_at words n) i ≡ row_says words n i
+unfolding row_says
+row_at_says words n i = refl
+
+-- ---- the rows of formulas
 
 pub truth_row_length : (r : Run) (A : Formula) → length (truth_row r A) ≡ 4
 unfolding truth_row
@@ -38,7 +62,8 @@ pub row_along : (r : Run) (fs : List Formula) (words : List ℕ) (f i : ℕ) →
     → row_says (with_rows r fs words) f i ≡ truth r (numbered fs f) i
 unfolding row_says with_rows truth_row
 row_along r fs words f i h l long =
-    ap (λ row. bit row i) (row_there r fs (drop (4 * length fs) words) f h)
+    by_place (with_rows r fs words) f i
+    ∙ ap (λ row. bit row i) (row_there r fs (drop (4 * length fs) words) f h)
     ∙ bit_row_of _ i (omega arith)
     ∙ ap (λ b. b && truth r (numbered fs f) i) (lt-ltb i (r.stem + r.loop) l)
 
@@ -46,7 +71,8 @@ row_along r fs words f i h l long =
 pub row_behind : (r : Run) (fs : List Formula) (words : List ℕ) (f i : ℕ) → f < length fs → r.stem + r.loop ≤ i → row_says (with_rows r fs words) f i ≡ false
 unfolding row_says with_rows truth_row
 row_behind r fs words f i h l =
-    ap (λ row. bit row i) (row_there r fs (drop (4 * length fs) words) f h)
+    by_place (with_rows r fs words) f i
+    ∙ ap (λ row. bit row i) (row_there r fs (drop (4 * length fs) words) f h)
     ∙ ⊎_elim
     (λ (low : i < 256). bit_row_of _ i low ∙ ap (λ b. b && truth r (numbered fs f) i) (le-ltb i (r.stem + r.loop) l))
     (λ (high : 256 ≤ i). bit_past (truth_row r (numbered fs f)) (truth_row_length r (numbered fs f)) i high)
@@ -75,22 +101,3 @@ unfolding with_rows
 with_rows_length r fs words room =
     length-append (rows_along r fs) (drop (4 * length fs) words)
     ∙ omega (arith, rows_along_length r fs, length-drop (4 * length fs) words)
-
--- ---- one row in the words
-
--- the row with a number, word by word
-word_of : (words : List ℕ) (n k : ℕ) → get_or (row_at words n) k 0 ≡ get_or (take 4 (drop (4 * n) words)) k 0
-word_of words n k = ⊎_elim (λ (h : k < 4). near k h ∙ sym (get_or-take 4 (drop (4 * n) words) k 0 h ∙ get_or-drop (4 * n) words k 0))
-    (λ (h : 4 ≤ k). get_or_past (row_at words n) k 0 h ∙ sym (get_or_past (take 4 (drop (4 * n) words)) k 0 (omega (arith, length-take 4 (drop (4 * n) words)))))
-    (cases_lt k 4)
-  where
-    near : (k : ℕ) → k < 4 → get_or (row_at words n) k 0 ≡ get_or words (4 * n + k) 0
-    near zero h = ap (λ m. get_or words m 0) (omega arith)
-    near (suc zero) h = refl
-    near (suc (suc zero)) h = refl
-    near (suc (suc (suc zero))) h = refl
-    near (suc (suc (suc (suc k)))) h = absurd (omega arith)
-
-pub row_at_says : (words : List ℕ) (n i : ℕ) → bit (row_at words n) i ≡ row_says words n i
-unfolding row_says bit
-row_at_says words n i = ap (λ w. testBit w (i % 64)) (word_of words n (i / 64))

@@ -10,13 +10,13 @@ use Rattle.formulas.specs.Entries.{placed, Lower}
 use Rattle.formulas.specs.Decode.{of_entry, formula_at, decoded}
 use Rattle.formulas.specs.Forming.{numbered}
 use Rattle.formulas.proofs.Decoded.{of_entry_same, formula_at_is, decoded_length, decoded_at}
-use Rattle.truths.specs.Along.{truth_row, rows_along, with_rows}
-use Rattle.truths.specs.Steps.{row_at, entry_row}
+use Rattle.truths.specs.Along.{truth_row, rows_along, with_rows, row_at}
+use Rattle.truths.specs.Steps.{entry_row}
 use Rattle.truths.proofs.Along.{rows_along_length, row_along, row_at_says}
-use Rattle.truths.proofs.Folding.{Tells, false_folds, atom_folds, implies_folds, next_folds, always_folds}
+use Rattle.truths.proofs.Folding.{RowTells, false_folds, atom_folds, implies_folds, next_folds, always_folds}
 
 -- where the words tell of all formulas below an entry, its row is that of its formula
-entry_folds : (r : Run) (fs : List Formula) (words : List ℕ) → ((f : ℕ) → f < length fs → Tells r (numbered fs f) (row_at words f))
+entry_folds : (r : Run) (fs : List Formula) (words : List ℕ) → ((f : ℕ) → f < length fs → RowTells r (numbered fs f) (row_at words f))
     → (e : Entry) → placed (length fs) e ≡ true → entry_row r words e ≡ truth_row r (of_entry (numbered fs) e)
 entry_folds r fs words tell False p = false_folds r
 entry_folds r fs words tell (Atom a) p = atom_folds r a (omega (arith, leb-true a 31 p))

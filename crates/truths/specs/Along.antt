@@ -1,5 +1,5 @@
 -- The rows of formulas along a run, and the words that hold them.
-use Rattle.std.specs.Prelude.{ℕ, ◌+◌, ◌*◌, Bool, cond, ◌&&◌, List, [], ◌∷◌, ◌++◌, length, take, drop, nat_le}
+use Rattle.std.specs.Prelude.{ℕ, ◌+◌, ◌*◌, Bool, cond, ◌&&◌, List, [], ◌∷◌, ◌++◌, length, drop, nat_le, slice_index}
 use Rattle.logic.specs.Formula.{Formula}
 use Rattle.logic.specs.Run.{Run}
 use Rattle.logic.specs.Decide.{truth}
@@ -26,6 +26,10 @@ with_rows r fs words = rows_along r fs ++ drop (4 * length fs) words
 abbrev pub rows_after : Run → List Formula → List ℕ → List ℕ
 rows_after r fs words = cond (rows_fit r fs (length words)) (with_rows r fs words) words
 
--- what the row with a number says of a position
+-- the row with a number, where words that are not there are 0
+abbrev pub row_at : List ℕ → ℕ → List ℕ
+row_at words n = slice_index words (4 * n) ∷ slice_index words (4 * n + 1) ∷ slice_index words (4 * n + 2) ∷ slice_index words (4 * n + 3) ∷ []
+
+-- what it says of a position
 unfoldable pub row_says : List ℕ → ℕ → ℕ → Bool
-row_says words n i = bit (take 4 (drop (4 * n) words)) i
+row_says words n i = bit (row_at words n) i

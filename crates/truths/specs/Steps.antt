@@ -1,14 +1,11 @@
 -- How the row of an entry comes from the rows of its operands.
-use Rattle.std.specs.Prelude.{ℕ, ◌+◌, ◌-◌, ◌*◌, min, false, not, ◌||◌, List, [], ◌∷◌, slice_index}
+use Rattle.std.specs.Prelude.{ℕ, ◌+◌, ◌-◌, min, false, not, ◌||◌, List}
 use Rattle.logic.specs.Run.{Run}
 use Rattle.formulas.specs.declared.entry.Entry.{Entry}
 use Rattle.formulas.specs.declared.entry.Entry.TheVariants.{False, Atom, Implies, Next, Always}
 use Rattle.runs.specs.Telling.{told}
-use Rattle.rows.specs.Row.{bit, row_of, row_up_to, all_from, after}
-
--- the row with a number, where words that are not there are 0
-abbrev pub row_at : List ℕ → ℕ → List ℕ
-row_at words n = slice_index words (4 * n) ∷ slice_index words (4 * n + 1) ∷ slice_index words (4 * n + 2) ∷ slice_index words (4 * n + 3) ∷ []
+use Rattle.truths.specs.Along.{row_at}
+use Rattle.rows.specs.Row.{bit, row_of, row_up_to, true_from, after}
 
 -- the rows of compound formulas, by those of their parts
 abbrev pub implies_row : Run → List ℕ → List ℕ → List ℕ
@@ -18,7 +15,7 @@ abbrev pub next_row : Run → List ℕ → List ℕ
 next_row r a = row_up_to (r.stem + r.loop) (λ i. bit a (after r.stem (r.stem + r.loop) i))
 
 abbrev pub always_row : Run → List ℕ → List ℕ
-always_row r a = row_up_to (r.stem + r.loop) (λ i. all_from (bit a) (min i r.stem) (r.stem + r.loop - min i r.stem))
+always_row r a = row_up_to (r.stem + r.loop) (λ i. true_from (r.stem + r.loop - min i r.stem) (min i r.stem) (bit a))
 
 -- the row of an entry, by what the run's source tells and the rows of its operands in the words
 abbrev pub entry_row : Run → List ℕ → Entry → List ℕ

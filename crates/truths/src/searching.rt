@@ -11,7 +11,8 @@ pub fn first_false(words: &[u64], formulas: &[u16], positions: usize) -> Option<
     ensures { result ≡ first_failing (row_says words.now) positions 0 formulas.now }
 {
     let mut found = None;
-    // Left by a label, and no chain of iterators: a rule of the project (docs/ARCHITECTURE.md).
+    // Left by a label, and no chain of iterators: the break leaves both loops at once, and each of the two loops is one line
+    // of the search.
     'search: for (place, formula) in formulas.iter().enumerate() {
         for position in 0..positions {
             if !truth_at(words, *formula, position) {

@@ -1,7 +1,7 @@
 // Rows in words that a caller lends: the row with the number n stands in the four words from 4 * n on.
 // By places, and not by `as_chunks`: a row is read where the words end inside it, too, and clauses speak of words.
 ghost use Rattle.std.specs.Prelude.{◌≡◌, ◌+◌, ◌*◌, ◌≤◌, ◌++◌, length, take, drop};
-ghost use Rattle.truths.specs.Steps.{row_at};
+ghost use Rattle.truths.specs.Along.{row_at};
 
 use rows::{Row, WORDS};
 use std::array;

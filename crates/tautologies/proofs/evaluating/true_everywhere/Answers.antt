@@ -7,9 +7,9 @@ use Rattle.formulas.specs.Decode.{formula_at}
 use Rattle.rows.proofs.Rows.{empty_row}
 use Rattle.tautologies.specs.declared.step.Step.{Step}
 use Rattle.tautologies.specs.Gathering.{Marked, formulas_at}
-use Rattle.tautologies.specs.Planning.{Within, row_numbered}
+use Rattle.tautologies.specs.Planning.{RowsThere, row_numbered}
 use Rattle.tautologies.proofs.Plans.{steps_within}
-use Rattle.tautologies.proofs.Blocks.{truth_row, worked, cleared_again, every_choice, full_block, not_full}
+use Rattle.tautologies.proofs.Blocks.{row_under_choices, worked, cleared_again, every_choice, full_block, not_full}
 use Rattle.tautologies.proofs.evaluating.true_everywhere.Goals as goal
 use Rattle.tautologies.proofs.evaluating.true_everywhere.Goals.{After-is_full, then-not-is_full-via-then-not-is_full, then-not-is_full-via-else-not-is_full+then-not-is_full-2}
 
@@ -30,29 +30,29 @@ choose-requires-in-loop-pair-clause-within c = λ k n is. omega (arith, c.requir
 pub follow-requires : goal.follow-requires
 follow-requires c =
     let es = c.args.entries.now in
-    subst (λ (ss : List Step). (k : ℕ) (s : Step) → slice_get ss k ≡ Some s → Within s 1024) (sym (c.as_slice.ensures.items ∙ c.plan-steps.ensures))
+    subst (λ (ss : List Step). (k : ℕ) (s : Step) → slice_get ss k ≡ Some s → RowsThere s 1024) (sym (c.as_slice.ensures.items ∙ c.plan-steps.ensures))
     (steps_within es c.args.seen.now c.requires.entered.lower c.requires.entered.within (length es) (omega arith))
 
 -- the rows at the end of two blocks
 module _ (c : After-is_full) where
   even_told : (n : ℕ) → Marked c.args.seen.now n
-      → row_numbered c.follow.new.even n ≡ truth_row (formulas_at c.args.entries.now c.args.parts.now) (2 * c.loop-pair.pair) (formula_at c.args.entries.now n)
+      → row_numbered c.follow.new.even n ≡ row_under_choices (formulas_at c.args.entries.now c.args.parts.now) (2 * c.loop-pair.pair) (formula_at c.args.entries.now n)
   even_told =
       worked c.args.entries.now c.requires.entered c.args.seen.now c.args.parts.now c.requires.gathered (2 * c.loop-pair.pair) c.loop-pair.even c.choose.new.rows c.follow.new.even
       c.as_slice.result.now c.choose.array_long c.loop-pair.invariant.even c.choose.ensures.parts c.choose.ensures.others c.follow.ensures.even (c.as_slice.ensures.items ∙ c.plan-steps.ensures)
 
   odd_told : (n : ℕ) → Marked c.args.seen.now n
-      → row_numbered c.follow.new.odd n ≡ truth_row (formulas_at c.args.entries.now c.args.parts.now) (2 * c.loop-pair.pair + 1) (formula_at c.args.entries.now n)
+      → row_numbered c.follow.new.odd n ≡ row_under_choices (formulas_at c.args.entries.now c.args.parts.now) (2 * c.loop-pair.pair + 1) (formula_at c.args.entries.now n)
   odd_told =
       worked c.args.entries.now c.requires.entered c.args.seen.now c.args.parts.now c.requires.gathered (2 * c.loop-pair.pair + 1) c.loop-pair.odd c.choose-in-loop-pair.new.rows c.follow.new.odd
       c.as_slice.result.now c.choose-in-loop-pair.array_long c.loop-pair.invariant.odd c.choose-in-loop-pair.ensures.parts c.choose-in-loop-pair.ensures.others c.follow.ensures.odd
       (c.as_slice.ensures.items ∙ c.plan-steps.ensures)
 
   -- those of the formula
-  even_row : row_numbered c.follow.new.even c.from-place.result ≡ truth_row (formulas_at c.args.entries.now c.args.parts.now) (2 * c.loop-pair.pair) (formula_at c.args.entries.now c.args.number)
+  even_row : row_numbered c.follow.new.even c.from-place.result ≡ row_under_choices (formulas_at c.args.entries.now c.args.parts.now) (2 * c.loop-pair.pair) (formula_at c.args.entries.now c.args.number)
   even_row = ap (row_numbered c.follow.new.even) c.from-place.ensures ∙ even_told c.args.number c.requires.marked
 
-  odd_row : row_numbered c.follow.new.odd c.from-place.result ≡ truth_row (formulas_at c.args.entries.now c.args.parts.now) (2 * c.loop-pair.pair + 1) (formula_at c.args.entries.now c.args.number)
+  odd_row : row_numbered c.follow.new.odd c.from-place.result ≡ row_under_choices (formulas_at c.args.entries.now c.args.parts.now) (2 * c.loop-pair.pair + 1) (formula_at c.args.entries.now c.args.number)
   odd_row = ap (row_numbered c.follow.new.odd) c.from-place.ensures ∙ odd_told c.args.number c.requires.marked
 
 pub returns-then-not-is_full : goal.returns-then-not-is_full

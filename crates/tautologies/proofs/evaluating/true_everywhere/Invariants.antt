@@ -3,8 +3,7 @@ use Rattle.std.proofs.Common.{◌≡◌, ℕ, ◌*◌, ◌<◌, true}
 use Rattle.formulas.specs.Decode.{formula_at}
 use Rattle.calculus.specs.Tautology.{eval}
 use Rattle.tautologies.specs.Gathering.{formulas_at}
-use Rattle.tautologies.specs.Choosing.{chosen}
-use Rattle.tautologies.specs.Planning.{Cleared}
+use Rattle.tautologies.proofs.Chosen.{chosen, Cleared}
 use Rattle.tautologies.proofs.evaluating.true_everywhere.Given as goal
 
 abbrev pub invariant-loop-pair : goal.invariant-loop-pair

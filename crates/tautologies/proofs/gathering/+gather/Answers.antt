@@ -1,13 +1,13 @@
 -- An entry that is marked has its parts already; one that is not has those of its operands, or is a part itself.
-use Rattle.std.proofs.Common.{◌≡◌, ℕ, ◌<◌, Bool, true, false, ◌⊎◌, ◌≤◌, Err, Result, List, set, length, get_or, MatchResult, sym, ◌∙◌, subst, arith, rules}
+use Rattle.std.proofs.Common.{◌≡◌, ℕ, ◌<◌, Bool, true, false, ◌≤◌, Err, Result, List, set, length, get_or, MatchResult, sym, ◌∙◌, subst, arith, rules}
 use Rattle.std.proofs.lemmas.Bool.{both_ways, leb-true}
 use Rattle.std.proofs.lemmas.Result.{err_from_is_err_and}
 use Rattle.formulas.specs.declared.entry.Entry.{Entry}
-use Rattle.formulas.specs.declared.entry.Entry.TheVariants.{False, Atom, Next, Always}
+use Rattle.formulas.specs.declared.entry.Entry.TheVariants.{False}
 use Rattle.formulas.specs.Decode.{formula_at}
 use Rattle.calculus.specs.PrimeParts.{gathered}
 use Rattle.tautologies.specs.Gathering.{Gathered, Marked, formulas_at}
-use Rattle.tautologies.proofs.Marks.{Ended, old_parts, ended_false, ended_implies, ended_part, over_part, over_left, over_right}
+use Rattle.tautologies.proofs.Marks.{Kinds, Ended, old_parts, ended_false, ended_implies, ended_part, over_part, over_left, over_right}
 use Rattle.tautologies.proofs.gathering.+gather.Goals as goal
 use Rattle.tautologies.proofs.gathering.+gather.Goals.{in-False, in-Implies+in_ok-gather-in-Implies+in_ok-gather-in-Implies-2, in-Atom+else-is_full}
 
@@ -43,10 +43,6 @@ returns-in_err-gather-in-Implies-2-clause-parts t c =
     (12 < length (gathered (formulas_at es c.args.parts.now) (formula_at es c.args.number)))
     p.1 (over_right es c.requires.entered c.args.number c.requires.there c.in-Implies.left c.in-Implies.right is c.args.parts.now c.gather.new.parts
     c.in_ok-gather-in-Implies.ensures.parts c.in_err-gather-in-Implies-2.ensures.parts)
-
--- how an entry is that is a part itself
-abbrev Kinds : Entry → Type 0
-Kinds e = ((a : ℕ) × (e ≡ Atom a)) ⊎ (((a : ℕ) × (e ≡ Next a)) ⊎ ((a : ℕ) × (e ≡ Always a)))
 
 -- an entry without a mark is not marked
 unmarked : {n m : ℕ} (seen : List Bool) → m ≡ n → get_or seen m false ≡ false → Marked seen n → ⊥

@@ -3,7 +3,7 @@ use Rattle.std.proofs.Common.{length, ap, ◌∙◌, sym}
 use Rattle.runs.specs.Meanings.{pulse_meaning}
 use Rattle.runs.specs.Pulses.{pulse_in, pulsed, pulse_check, pulse_run}
 use Rattle.runs.proofs.Along.{pulses_all_along}
-use Rattle.runs.proofs.Passing.{looped_same, run_or, pulses_failed_run}
+use Rattle.runs.proofs.Passing.{looped_same, run_or, pulses_failed_run, pulses_silent}
 use Rattle.runs.proofs.pulses.PulseRun.new.Goals as goal
 
 pub returns-clause-run : goal.returns-clause-run
@@ -16,3 +16,6 @@ returns-clause-run c =
 
 pub returns-clause-along : goal.returns-clause-along
 returns-clause-along c = pulses_all_along c.args.bytes.now
+
+pub returns-clause-otherwise : goal.returns-clause-otherwise
+returns-clause-otherwise c = pulses_silent c.args.bytes.now

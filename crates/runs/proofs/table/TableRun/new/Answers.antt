@@ -3,7 +3,7 @@ use Rattle.std.proofs.Common.{ap, ◌∙◌, sym}
 use Rattle.runs.specs.Meanings.{table_meaning}
 use Rattle.runs.specs.Tables.{table_check, table_run, words_say}
 use Rattle.runs.proofs.Given.{tables_as_given}
-use Rattle.runs.proofs.Passing.{looped_same, run_or, table_failed_run}
+use Rattle.runs.proofs.Passing.{looped_same, run_or, table_failed_run, table_silent}
 use Rattle.runs.proofs.table.TableRun.new.Goals as goal
 
 pub returns-clause-run : goal.returns-clause-run
@@ -16,3 +16,6 @@ returns-clause-run c =
 
 pub returns-clause-given : goal.returns-clause-given
 returns-clause-given c = tables_as_given c.args.bytes.now
+
+pub returns-clause-otherwise : goal.returns-clause-otherwise
+returns-clause-otherwise c = table_silent c.args.bytes.now

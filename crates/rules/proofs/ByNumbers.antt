@@ -1,6 +1,7 @@
 -- Matching by numbers comes to matching formulas, since no two numbers stand for one formula.
-use Rattle.std.proofs.Common.{◌≡◌, ℕ, zero, suc, ◌<◌, Bool, true, false, cond, ◌&&◌, eqb, ltb, List, [], ◌∷◌, map, length, set, get_or, Some, None, Option, is_some, sym, refl, ap, ◌∙◌, subst, inl, inr, arith}
+use Rattle.std.proofs.Common.{◌≡◌, ℕ, zero, suc, ◌<◌, Bool, true, false, cond, ◌&&◌, eqb, ltb, List, map, length, set, get_or, Some, None, Option, is_some, sym, refl, ap, ◌∙◌, subst, inl, inr, arith}
 use Rattle.std.specs.List.{slice_get}
+use Rattle.std.specs.Cmp as cmp
 use Rattle.std.specs.Option.{option_map, option_and_then}
 use Rattle.std.proofs.lemmas.Bool.{and_parts, ltb-true, eqb-true, eq-eqb, cases_eq}
 use Rattle.std.proofs.lemmas.List.{length-map, get_or-map, map-set, length-set, get_or-set_same, get_or-set_other}
@@ -16,7 +17,7 @@ use Rattle.formulas.specs.Decode.{of_entry, formula_at, decoded}
 use Rattle.formulas.specs.Forming.{numbered}
 use Rattle.formulas.proofs.Decoded.{of_entry_same, formula_at_is, formula_injective, decoded_length, decoded_at}
 use Rattle.formulas.proofs.Members.{some_same, some_not_none, nth_within, nth_there}
-use Rattle.rules.specs.Matching.{may_be, with_letter, matched, if_false, if_implies, if_next, if_always, matched_in, Shape, premise_matched, premise_matched_in, is_instance, letters_in}
+use Rattle.rules.specs.Matching.{may_be, with_letter, none_known, matched, if_false, if_implies, if_next, if_always, matched_in, Shape, premise_matched, premise_matched_in, is_instance, letters_in}
 use Rattle.rules.specs.Questions.{premise_entered}
 
 -- the formulas that stand for letters, from their numbers
@@ -26,12 +27,6 @@ formulas_for fs ls = map (option_map (numbered fs)) ls
 -- and these numbers are in the list
 abbrev pub LettersEntered : List Formula → List (Option ℕ) → Type 0
 LettersEntered fs ls = (a n : ℕ) → slice_get ls a ≡ Some (Some n) → n < length fs
-
--- two tests that pass alike
-pub alike_tests : (b c : Bool) → (b ≡ true → c ≡ true) → (c ≡ true → b ≡ true) → b ≡ c
-alike_tests true c f g = sym (f refl)
-alike_tests false true f g = g refl
-alike_tests false false f g = refl
 
 is_some_map : {X Y : Type 0} (f : X → Y) (o : Option X) → is_some (option_map f o) ≡ is_some o
 is_some_map f None = refl
@@ -68,26 +63,26 @@ module _ (es : List Entry) (low : Lower es) (distinct : Distinct es) where
       subst (λ (x : Entry). placed n x ≡ true) (some_same (sym (slice_get-get_or es n False h) ∙ is)) (low n h)
 
   same_numbers : (m n : ℕ) → m < length fs → n < length fs → eqb m n ≡ same (at m) (at n)
-  same_numbers m n m_in n_in = alike_tests (eqb m n) (same (at m) (at n))
+  same_numbers m n m_in n_in = cmp.both_ways (eqb m n) (same (at m) (at n))
       (λ e. subst (λ (k : ℕ). same (at m) (at k) ≡ true) (eqb-true m n e) (same_refl (at m)))
       (λ e. eq-eqb m n (formula_injective es low distinct m n (in_entries m m_in) (in_entries n n_in)
       (sym (decoded_at es m (in_entries m m_in)) ∙ same_true (at m) (at n) e ∙ decoded_at es n (in_entries n n_in))))
 
   -- an answer by numbers is one by formulas
-  record Tells (o : Option (List (Option ℕ))) (p : Option (List (Option Formula))) : Type 0 where
+  record SameAnswer (o : Option (List (Option ℕ))) (p : Option (List (Option Formula))) : Type 0 where
     means : option_map meant o ≡ p
     entered : (more : List (Option ℕ)) → o ≡ Some more → LettersEntered fs more
 
-  nothing : Tells None None
+  nothing : SameAnswer None None
   nothing = record { means = refl; entered = λ more e. absurd (some_not_none (sym e)) }
 
-  just : (ls : List (Option ℕ)) → LettersEntered fs ls → Tells (Some ls) (Some (meant ls))
+  just : (ls : List (Option ℕ)) → LettersEntered fs ls → SameAnswer (Some ls) (Some (meant ls))
   just ls known = record { means = refl; entered = λ more e. subst (LettersEntered fs) (some_same e) known }
 
   one_then : (o : Option (List (Option ℕ))) (p : Option (List (Option Formula))) (f : List (Option ℕ) → Option (List (Option ℕ))) (g : List (Option Formula) → Option (List (Option Formula)))
-      → Tells o p → ((more : List (Option ℕ)) → LettersEntered fs more → Tells (f more) (g (meant more))) → Tells (option_and_then f o) (option_and_then g p)
-  one_then None p f g first behind = subst (λ (q : Option (List (Option Formula))). Tells None (option_and_then g q)) first.means nothing
-  one_then (Some ls) p f g first behind = subst (λ (q : Option (List (Option Formula))). Tells (f ls) (option_and_then g q)) first.means (behind ls (first.entered ls refl))
+      → SameAnswer o p → ((more : List (Option ℕ)) → LettersEntered fs more → SameAnswer (f more) (g (meant more))) → SameAnswer (option_and_then f o) (option_and_then g p)
+  one_then None p f g first behind = subst (λ (q : Option (List (Option Formula))). SameAnswer None (option_and_then g q)) first.means nothing
+  one_then (Some ls) p f g first behind = subst (λ (q : Option (List (Option Formula))). SameAnswer (f ls) (option_and_then g q)) first.means (behind ls (first.entered ls refl))
 
   -- one letter
   module _ (ls : List (Option ℕ)) (known : LettersEntered fs ls) (a n : ℕ) (n_in : n < length fs) where
@@ -111,45 +106,45 @@ module _ (es : List Entry) (low : Lower es) (distinct : Distinct es) where
           ∙ sym (slice_get-get_or (set ls a (Some n)) b None (nth_within (set ls a (Some n)) b is)) ∙ is)
     ]
 
-    letter_tells : Tells (with_letter eqb ls a n) (with_letter same (meant ls) a (at n))
-    letter_tells = subst (λ (k : ℕ). Tells (with_letter eqb ls a n) (cond (ltb a k && may_be same (get_or (meant ls) a None) (at n)) (Some (set (meant ls) a (Some (at n)))) None))
+    letter_tells : SameAnswer (with_letter eqb ls a n) (with_letter same (meant ls) a (at n))
+    letter_tells = subst (λ (k : ℕ). SameAnswer (with_letter eqb ls a n) (cond (ltb a k && may_be same (get_or (meant ls) a None) (at n)) (Some (set (meant ls) a (Some (at n)))) None))
         (sym (length-map ls (option_map at))) (by (ltb a (length ls)) refl)
       where
-        by_may : (b : Bool) → Tells (cond b (Some (set ls a (Some n))) None) (cond b (Some (set (meant ls) a (Some (at n)))) None)
-        by_may true = subst (λ (x : List (Option Formula)). Tells (Some (set ls a (Some n))) (Some x)) (map-set (option_map at) ls a (Some n)) (just (set ls a (Some n)) set_entered)
+        by_may : (b : Bool) → SameAnswer (cond b (Some (set ls a (Some n))) None) (cond b (Some (set (meant ls) a (Some (at n)))) None)
+        by_may true = subst (λ (x : List (Option Formula)). SameAnswer (Some (set ls a (Some n))) (Some x)) (map-set (option_map at) ls a (Some n)) (just (set ls a (Some n)) set_entered)
         by_may false = nothing
 
         by : (b : Bool) → ltb a (length ls) ≡ b
-            → Tells (cond (b && may_be eqb (get_or ls a None) n) (Some (set ls a (Some n))) None) (cond (b && may_be same (get_or (meant ls) a None) (at n)) (Some (set (meant ls) a (Some (at n)))) None)
+            → SameAnswer (cond (b && may_be eqb (get_or ls a None) n) (Some (set ls a (Some n))) None) (cond (b && may_be same (get_or (meant ls) a None) (at n)) (Some (set (meant ls) a (Some (at n)))) None)
         by true e =
-            subst (λ (c : Bool). Tells (cond (may_be eqb (get_or ls a None) n) (Some (set ls a (Some n))) None) (cond c (Some (set (meant ls) a (Some (at n)))) None))
+            subst (λ (c : Bool). SameAnswer (cond (may_be eqb (get_or ls a None) n) (Some (set ls a (Some n))) None) (cond c (Some (set (meant ls) a (Some (at n)))) None))
             (may_same (ltb-true a (length ls) e)) (by_may (may_be eqb (get_or ls a None) n))
         by false e = nothing
 
   -- matching, by the entry with the number
   abbrev Matches : Formula → Type 0
-  Matches A = (n : ℕ) (ls : List (Option ℕ)) → n < length es → LettersEntered fs ls → Tells (matched_in es A n ls) (matched A (at n) (meant ls))
+  Matches A = (n : ℕ) (ls : List (Option ℕ)) → n < length es → LettersEntered fs ls → SameAnswer (matched_in es A n ls) (matched A (at n) (meant ls))
 
   module _ (n : ℕ) (ls : List (Option ℕ)) (n_in : n < length es) (known : LettersEntered fs ls) where
     at_entry : (f : Option Entry → Option (List (Option ℕ))) (g : Formula → Option (List (Option Formula)))
-        → ((e : Entry) → placed n e ≡ true → Tells (f (Some e)) (g (of_entry at e))) → Tells (f (slice_get es n)) (g (at n))
+        → ((e : Entry) → placed n e ≡ true → SameAnswer (f (Some e)) (g (of_entry at e))) → SameAnswer (f (slice_get es n)) (g (at n))
     at_entry f g h =
         let (e, is) = nth_there es n n_in in
-        subst (λ (o : Option Entry). Tells (f o) (g (at n))) (sym is)
-        (subst (λ (X : Formula). Tells (f (Some e)) (g X)) (sym (at_is n e is)) (h e (entry_placed n e is)))
+        subst (λ (o : Option Entry). SameAnswer (f o) (g (at n))) (sym is)
+        (subst (λ (X : Formula). SameAnswer (f (Some e)) (g X)) (sym (at_is n e is)) (h e (entry_placed n e is)))
 
-    false_matches : (e : Entry) → Tells (if_false (Some e) (Some ls)) (matched falsum (of_entry at e) (meant ls))
+    false_matches : (e : Entry) → SameAnswer (if_false (Some e) (Some ls)) (matched falsum (of_entry at e) (meant ls))
     false_matches False = just ls known
     false_matches (Atom a) = nothing
     false_matches (Implies a b) = nothing
     false_matches (Next a) = nothing
     false_matches (Always a) = nothing
 
-    operand : (A : Formula) → Matches A → (a : ℕ) → ltb a n ≡ true → (more : List (Option ℕ)) → LettersEntered fs more → Tells (matched_in es A a more) (matched A (at a) (meant more))
+    operand : (A : Formula) → Matches A → (a : ℕ) → ltb a n ≡ true → (more : List (Option ℕ)) → LettersEntered fs more → SameAnswer (matched_in es A a more) (matched A (at a) (meant more))
     operand A inner a lower more k = inner a more (omega (arith, ltb-true a n lower)) k
 
     implies_matches : (A B : Formula) → Matches A → Matches B → (e : Entry) → placed n e ≡ true
-        → Tells (if_implies (Some e) (λ a b. option_and_then (matched_in es B b) (matched_in es A a ls))) (matched (implies A B) (of_entry at e) (meant ls))
+        → SameAnswer (if_implies (Some e) (λ a b. option_and_then (matched_in es B b) (matched_in es A a ls))) (matched (implies A B) (of_entry at e) (meant ls))
     implies_matches A B of_left of_right False p = nothing
     implies_matches A B of_left of_right (Atom a) p = nothing
     implies_matches A B of_left of_right (Implies a b) p =
@@ -159,14 +154,14 @@ module _ (es : List Entry) (low : Lower es) (distinct : Distinct es) where
     implies_matches A B of_left of_right (Next a) p = nothing
     implies_matches A B of_left of_right (Always a) p = nothing
 
-    next_matches : (A : Formula) → Matches A → (e : Entry) → placed n e ≡ true → Tells (if_next (Some e) (λ a. matched_in es A a ls)) (matched (next A) (of_entry at e) (meant ls))
+    next_matches : (A : Formula) → Matches A → (e : Entry) → placed n e ≡ true → SameAnswer (if_next (Some e) (λ a. matched_in es A a ls)) (matched (next A) (of_entry at e) (meant ls))
     next_matches A inner False p = nothing
     next_matches A inner (Atom a) p = nothing
     next_matches A inner (Implies a b) p = nothing
     next_matches A inner (Next a) p = operand A inner a p ls known
     next_matches A inner (Always a) p = nothing
 
-    always_matches : (A : Formula) → Matches A → (e : Entry) → placed n e ≡ true → Tells (if_always (Some e) (λ a. matched_in es A a ls)) (matched (always A) (of_entry at e) (meant ls))
+    always_matches : (A : Formula) → Matches A → (e : Entry) → placed n e ≡ true → SameAnswer (if_always (Some e) (λ a. matched_in es A a ls)) (matched (always A) (of_entry at e) (meant ls))
     always_matches A inner False p = nothing
     always_matches A inner (Atom a) p = nothing
     always_matches A inner (Implies a b) p = nothing
@@ -184,13 +179,13 @@ module _ (es : List Entry) (low : Lower es) (distinct : Distinct es) where
 
   -- a premise
   premise_matches : (A : Option Formula) (p : Option ℕ) → premise_entered fs p ≡ true → (ls : List (Option ℕ)) → LettersEntered fs ls
-      → Tells (premise_matched_in es A p ls) (premise_matched A (option_map at p) (meant ls))
+      → SameAnswer (premise_matched_in es A p ls) (premise_matched A (option_map at p) (meant ls))
   premise_matches None None e ls known = just ls known
   premise_matches None (Some n) e ls known = nothing
   premise_matches (Some A) None e ls known = nothing
   premise_matches (Some A) (Some n) e ls known = matches A n ls (in_entries n (ltb-true n (length fs) e)) known
 
-  none_entered : LettersEntered fs (None ∷ None ∷ None ∷ [])
+  none_entered : LettersEntered fs none_known
   none_entered zero n is = cc
   none_entered (suc zero) n is = cc
   none_entered (suc (suc zero)) n is = cc
@@ -202,6 +197,6 @@ module _ (es : List Entry) (low : Lower es) (distinct : Distinct es) where
   instance_by_numbers h n p q n_in p_in q_in =
       let found = one_then _ _ (premise_matched_in es h.second q) (premise_matched h.second (option_map at q))
       (one_then _ _ (premise_matched_in es h.first p) (premise_matched h.first (option_map at p))
-      (matches h.conclusion n (None ∷ None ∷ None ∷ []) (in_entries n n_in) none_entered)
+      (matches h.conclusion n none_known (in_entries n n_in) none_entered)
       (premise_matches h.first p p_in)) (premise_matches h.second q q_in) in
       sym (is_some_map meant (letters_in es h n p q)) ∙ ap is_some found.means

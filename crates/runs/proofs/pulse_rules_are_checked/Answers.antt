@@ -1,0 +1,9 @@
+-- The theorems are `pulse_ruled` and `pulse_wrong_length`.
+use Rattle.runs.proofs.Ruled.{pulse_ruled, pulse_wrong_length}
+use Rattle.runs.proofs.pulse_rules_are_checked.Goals as goal
+
+pub returns-clause-passing : goal.returns-clause-passing
+returns-clause-passing c = pulse_ruled
+
+pub returns-clause-wrong_length : goal.returns-clause-wrong_length
+returns-clause-wrong_length c = pulse_wrong_length
