@@ -1,8 +1,8 @@
 -- What a page is asked about a line, and what line comes to then.
-use Rattle.std.proofs.Common.{◌≡◌, ℕ, ◌<◌, ◌≤◌, true, false, ◌&&◌, ltb, length, Some, None, Ok, Err, Option, Result, sym, refl, ap, ◌∙◌, subst, ap₂, inl, inr, arith}
+use Rattle.std.proofs.Common.{◌≡◌, ℕ, ◌<◌, ◌≤◌, true, false, ◌&&◌, ltb, length, Some, None, Ok, Err, Option, Result, sym, refl, ap, ◌∙◌, subst, ap₂, inl, inr}
 use lib.Dec
-use Rattle.std.specs.List.{slice_get}
 use Rattle.std.specs.Option.{option_map}
+use Rattle.std.proofs.lemmas.Option.{slice_get_past}
 use Rattle.std.proofs.lemmas.Bool.{cond-true, cond-false, lt-ltb, le-ltb, and_from, and_left, and_right, cases_lt}
 use Rattle.refusals.specs.declared.Refusal.{Refusal}
 use Rattle.refusals.specs.declared.Refusal.TheVariants.{NotEntered, LineNotHeld, LinesFull}
@@ -11,12 +11,12 @@ use Rattle.calculus.specs.declared.verdict.Verdict.{Verdict}
 use Rattle.calculus.specs.declared.verdict.Verdict.TheVariants.{Admitted, NotAdmitted}
 use Rattle.calculus.specs.Pages.{Page}
 use Rattle.formulas.specs.Forming.{numbered}
-use Rattle.formulas.proofs.Members.{nth_within, nth_there}
+use Rattle.formulas.proofs.Members.{nth_there}
 use Rattle.rules.specs.declared.page.Question.{Question}
 use Rattle.rules.specs.Questions.{premise_entered, all_entered, verdict_on}
 use Rattle.model.specs.declared.line.Line.{Line}
 use Rattle.model.specs.Case.{Case}
-use Rattle.model.specs.Calls.{says}
+use Rattle.model.specs.Calls.{unchanged}
 use Rattle.model.specs.Lines.{place_held, premise, line_verdict, line_by, line}
 use Rattle.model.specs.Limits.{LinesEntered}
 use Rattle.model.proofs.LineChanges.{Allowed}
@@ -28,7 +28,7 @@ module _ (c : Case) where
   pub record Told (p o : Option ℕ) : Type 0 where
     pub held : place_held c p ≡ true
     pub is : option_map (numbered c.formulas) o ≡ premise c p
-    pub entered : LinesEntered c → premise_entered c.formulas o ≡ true
+    pub entered : LinesEntered c.formulas c.lines → premise_entered c.formulas o ≡ true
 
   abbrev pub PlaceAsked : Option ℕ → Result (Option ℕ) Refusal → Type 0
   PlaceAsked p (Ok o) = Told p o
@@ -44,15 +44,8 @@ module _ (c : Case) where
           is = ap (λ (o : Option Line). option_map (λ l. numbered c.formulas l.formula) o) (sym x.1);
           entered = λ all. lt-ltb x.0.formula (length c.formulas) (all k x.0 x.1);
         })
-    | inr past ↦ rw (none_there past) (le-ltb k (length c.lines) past, refl)
+    | inr past ↦ rw (slice_get_past c.lines k past) (le-ltb k (length c.lines) past, refl)
   ]
-    where
-      none_there : length c.lines ≤ k → slice_get c.lines k ≡ None
-      none_there past = by (slice_get c.lines k) refl
-        where
-          by : (o : Option Line) → slice_get c.lines k ≡ o → o ≡ None
-          by (Some x) is = absurd (omega (arith, nth_within c.lines k is, past))
-          by None is = refl
 
   module _ (l : Line) where
     pub question_unknown : length c.formulas ≤ l.formula → question_for c l ≡ Err NotEntered
@@ -72,15 +65,15 @@ module _ (c : Case) where
 
     -- a line that can't be asked about is refused, whatever the page is
     abbrev RefusedBy : Refusal → Type 0
-    RefusedBy e = (page : Page) → line c page l ≡ says c (Err e)
+    RefusedBy e = (page : Page) → line c page l ≡ unchanged c (Err e)
 
     abbrev Answered : Result Question Refusal → Type 0
     Answered (Ok q) = Asked q
     Answered (Err e) = RefusedBy e
 
     asked_behind : l.formula < length c.formulas → (o p : Result (Option ℕ) Refusal) → PlaceAsked l.first o → PlaceAsked l.second p → Answered (asked_with l o p)
-    asked_behind known (Err e) p first second = λ page. subst (λ (x : Refusal). line c page l ≡ says c (Err x)) first.1 (line_unplaced c page l known (and_left (place_held c l.first) (place_held c l.second) first.0))
-    asked_behind known (Ok o) (Err e) first second = λ page. subst (λ (x : Refusal). line c page l ≡ says c (Err x)) second.1 (line_unplaced c page l known (and_right (place_held c l.first) (place_held c l.second) second.0))
+    asked_behind known (Err e) p first second = λ page. subst (λ (x : Refusal). line c page l ≡ unchanged c (Err x)) first.1 (line_unplaced c page l known (and_left (place_held c l.first) (place_held c l.second) first.0))
+    asked_behind known (Ok o) (Err e) first second = λ page. subst (λ (x : Refusal). line c page l ≡ unchanged c (Err x)) second.1 (line_unplaced c page l known (and_right (place_held c l.first) (place_held c l.second) second.0))
     asked_behind known (Ok o) (Ok p) first second = record {
       known = known;
       placed = and_from (place_held c l.first) (place_held c l.second) first.held second.held;
@@ -96,14 +89,14 @@ module _ (c : Case) where
       | inr past ↦ subst Answered (sym (question_unknown past)) (λ page. line_unknown c page l past)
     ]
 
-    pub question_refused : (e : Refusal) → question_for c l ≡ Err e → (page : Page) → line c page l ≡ says c (Err e)
+    pub question_refused : (e : Refusal) → question_for c l ≡ Err e → (page : Page) → line c page l ≡ unchanged c (Err e)
     question_refused e is = subst Answered is answered
 
     pub question_asked : (q : Question) → question_for c l ≡ Ok q → Asked q
     question_asked q is = subst Answered is answered
 
     -- a page's verdict on the question is that on the formulas
-    pub asked_verdict : LinesEntered c → (page : Page) (q : Question) → question_for c l ≡ Ok q
+    pub asked_verdict : LinesEntered c.formulas c.lines → (page : Page) (q : Question) → question_for c l ≡ Ok q
         → verdict_on page.verdict c.formulas q ≡ page.verdict l.rule (numbered c.formulas l.formula) (premise c l.first) (premise c l.second)
     asked_verdict stated page q is =
         let a = question_asked q is in
@@ -116,7 +109,7 @@ module _ (c : Case) where
 
     -- a line that can be asked about, where there is room, comes to its verdict
     module _ (page : Page) (q : Question) (is : question_for c l ≡ Ok q) where
-      pub asked_full : 512 ≤ length c.lines → line c page l ≡ says c (Err LinesFull)
+      pub asked_full : 512 ≤ length c.lines → line c page l ≡ unchanged c (Err LinesFull)
       asked_full full = let a = question_asked q is in line_full c page l a.known a.placed full
 
       module _ (room : length c.lines < 512) where

@@ -7,6 +7,7 @@ use Rattle.model.specs.declared.line.Line.{Line}
 use Rattle.model.specs.Case.{Case}
 use Rattle.model.specs.Reads.{line_in}
 
+-- the number of the formula on a line that was read
 abbrev pub formula_on : Result Line Refusal → Result (Option ℕ) Refusal
 formula_on (Ok l) = Ok (Some l.formula)
 formula_on (Err e) = Err e

@@ -9,6 +9,7 @@ use Rattle.cases.specs.declared.stage.sealed.Sealed.{Sealed}
 unfoldable pub modelled : {S : Type 0} {stage : _} → declared.Case S stage → Case
 modelled {stage = stage} c = record { formulas = formulas_of c.formulas; assumptions = c.assumptions; lines = stage.held_lines c.stage; refutations = stage.held_refutations c.stage }
 
+-- that of a case at a given stage
 abbrev pub opened : {stage : _} → declared.Case Open stage → Case
 opened c = modelled c
 

@@ -1,10 +1,9 @@
 // A case at a stage: the formulas that are entered, those of them that are assumed, and what the stage holds.
-ghost use Rattle.std.specs.Prelude.{◌≡◌, ℕ, ◌<◌, ◌≤◌, length, Some};
-ghost use Rattle.std.specs.List.{slice_get};
+ghost use Rattle.std.specs.Prelude.{◌≤◌, length};
 ghost use Rattle.formulas.specs.Adding.{Distinct};
 ghost use Rattle.formulas.specs.Listed.{formulas_of};
 ghost use Rattle.model.specs.Breaking.{HaveRuns, LinesFollow};
-ghost use Rattle.model.specs.declared.line.Line.{Line};
+ghost use Rattle.model.specs.Limits.{AssumptionsEntered, LinesEntered};
 
 use crate::stage::{Open, Sealed, Stage};
 use formulas::{FormulaList, Table};
@@ -18,7 +17,8 @@ mod reading;
 // The most assumptions that a case takes.
 const ASSUMPTIONS: u16 = 16;
 
-// Clauses name its model by `modelled`: an `impl Model` needs a code for formulas, which is longer than what it saves.
+// Contracts name the model that it stands for by `modelled`. With an `impl Model` they could name the case itself, but for
+// that one has to define how any two models, and so any two formulas, are told apart: that is longer than what it saves.
 #[derive(Drop)]
 pub struct Case<S: Stage> {
     formulas: FormulaList,
@@ -27,8 +27,8 @@ pub struct Case<S: Stage> {
     stage: S,
     ghost within: { length assumptions ≤ 16 },
     ghost distinct: { Distinct assumptions },
-    ghost entered: { (k f : ℕ) → slice_get assumptions k ≡ Some f → f < length (formulas_of formulas) },
-    ghost stated: { (n : ℕ) (l : Line) → slice_get (S.held_lines stage) n ≡ Some l → l.formula < length (formulas_of formulas) },
+    ghost entered: { AssumptionsEntered (formulas_of formulas) assumptions },
+    ghost stated: { LinesEntered (formulas_of formulas) (S.held_lines stage) },
     ghost follow: { LinesFollow (formulas_of formulas) assumptions (S.held_lines stage) },
     ghost have_runs: { HaveRuns (formulas_of formulas) assumptions (S.held_refutations stage) },
 }
@@ -96,7 +96,8 @@ impl<S: Stage> Case<S> {
     ghost use Rattle.model.specs.Calls.{form};
     ghost use Rattle.cases.specs.Model.{modelled};
 
-    // Enters a formula, by its kind and two fields, and answers its number. A public call, so its parameters stay.
+    // Enters a formula, by its kind and two fields, and answers its number. It takes three numbers and no `Entry`, since
+    // they come from a file, where they need not describe a formula.
     pub fn form(&mut self, kind: u8, left: u16, right: u16) -> Result<u16, Refusal>
         ensures answer { result ≡ (form (modelled self.old) kind left right).answer }
         ensures after { modelled self.new ≡ (form (modelled self.old) kind left right).after }

@@ -6,14 +6,14 @@ use Rattle.refusals.specs.declared.Refusal.{Refusal}
 use Rattle.refusals.proofs.Answers.{ok_not_err, ok_same}
 use Rattle.formulas.proofs.Members.{nth_push, nth_pushed, nth_stays, every_push, distinct_push}
 use Rattle.model.specs.Case.{Case}
-use Rattle.model.specs.Calls.{Outcome, says, with_assumptions}
+use Rattle.model.specs.Calls.{Outcome, unchanged, with_assumptions}
 use Rattle.model.specs.Outcomes.{Absent, Assuming, not_entered, assumption_there, assumptions_full, newly_assumed}
 use Rattle.model.specs.Limits.{Limits}
 
 module _ (c : Case) (f : ℕ) where
   -- the case stays as it is, or has one more assumption
   data Changed : Outcome ℕ → Type 0 where
-    stays : (a : Result ℕ Refusal) → Changed (says c a)
+    stays : (a : Result ℕ Refusal) → Changed (unchanged c a)
     one_more : f < length c.formulas → Absent c.assumptions f → length c.assumptions < 16
         → Changed (record { answer = Ok (length c.assumptions); after = with_assumptions c (c.assumptions ++ f ∷ []) })
 
@@ -24,11 +24,11 @@ module _ (c : Case) (f : ℕ) where
   changed (newly_assumed f_in none room) = one_more f_in none room
 
   pub assume_refused : {o : Outcome ℕ} → Assuming c f o → (e : Refusal) → o.answer ≡ Err e → o.after ≡ c
-  assume_refused a e is = unchanged (changed a) is
+  assume_refused a e is = same_case (changed a) is
     where
-      unchanged : {o : Outcome ℕ} → Changed o → o.answer ≡ Err e → o.after ≡ c
-      unchanged (stays r) is = refl
-      unchanged (one_more f_in none room) is = absurd (ok_not_err is)
+      same_case : {o : Outcome ℕ} → Changed o → o.answer ≡ Err e → o.after ≡ c
+      same_case (stays r) is = refl
+      same_case (one_more f_in none room) is = absurd (ok_not_err is)
 
   pub assume_forms_nothing : {o : Outcome ℕ} → Assuming c f o → o.after.formulas ≡ c.formulas
   assume_forms_nothing a = same_formulas (changed a)
@@ -90,6 +90,8 @@ module _ (c : Case) (f : ℕ) where
         assumptions_entered = every_push (λ g. g < length c.formulas) c.assumptions f l.assumptions_entered f_in;
         lines_few = l.lines_few;
         lines_entered = l.lines_entered;
+        places_earlier = l.places_earlier;
         refutations_few = l.refutations_few;
         refutations_entered = l.refutations_entered;
+        refutations_within = l.refutations_within;
       }

@@ -37,9 +37,9 @@ one_number xs distinct i j x at_i at_j = elim (cases_lt i j) [
   ]
 ]
 
-module _ (D : Derivation) (h : History sealed_stage) (ready : Ready D h) where
+module _ (D : Derivation) (h : History sealed_stage) where
   -- behind the first n lines, what was formed and assumed before still is
-  formed_still : {n : ℕ} {g : History sealed_stage} → Entering D h n g → (f : ℕ) (A : Formula) → Formed sealed_stage h f A → Formed sealed_stage g f A
+  pub formed_still : {n : ℕ} {g : History sealed_stage} → Entering D h n g → (f : ℕ) (A : Formula) → Formed sealed_stage h f A → Formed sealed_stage g f A
   formed_still not_begun f A formed = formed
   formed_still (other_call e x b) f A formed = formed_earlier (formed_still e f A formed)
   formed_still (next_line e s is page publishes k number) f A formed = formed_earlier (formed_still e f A formed)
@@ -49,14 +49,15 @@ module _ (D : Derivation) (h : History sealed_stage) (ready : Ready D h) where
   assumed_still (other_call e x b) k f assumed = assumed_earlier (assumed_still e k f assumed)
   assumed_still (next_line e s is page publishes j number) k f assumed = assumed_earlier (assumed_still e k f assumed)
 
+module _ (D : Derivation) (h : History sealed_stage) (ready : Ready D h) where
   -- the formula of an assumption of the derivation is assumed, by the only number that it has
   module _ {n : ℕ} {g : History sealed_stage} (e : Entering D h n g) (f : ℕ) (A : Formula) (numbered : Number (after g).formulas f A) where
     assumed_by : (k : ℕ) → slice_get D.assumptions k ≡ Some A → (j : ℕ) × (slice_get (after g).assumptions j ≡ Some f)
     assumed_by k at =
         let a = ready.assumptions k A at in
-        let there = formed_there sealed_stage g a.1 A (formed_still e a.1 A a.3) in
+        let there = formed_there sealed_stage g a.1 A (formed_still D h e a.1 A a.3) in
         let same_number = one_number (after g).formulas (limits_kept sealed_stage g).formulas_distinct a.1 f A there numbered in
-        (a.0, subst (λ (x : ℕ). slice_get (after g).assumptions a.0 ≡ Some x) same_number (assumed_there sealed_stage g a.0 a.1 (assumed_still e a.0 a.1 a.2)))
+        (a.0, subst (λ (x : ℕ). slice_get (after g).assumptions a.0 ≡ Some x) same_number (assumed_there sealed_stage g a.0 a.1 (assumed_still D h e a.0 a.1 a.2)))
 
   -- a call that comes between leaves what is held of the derivation
   along_between : {n : ℕ} (g : History sealed_stage) (x : Call sealed_stage) → Between g x → Along D n (after g) → Along D n (after (then g x))
@@ -80,13 +81,9 @@ module _ (D : Derivation) (h : History sealed_stage) (ready : Ready D h) where
   along_all (other_call {g = g} e x b) = along_between g x b (along_all e)
   along_all (next_line {n = n} {g = g} e s is page publishes f formed) =
       let numbered = formed_there sealed_stage g f s.formula formed in
-      next_along D (along_all e) s is f numbered (assumed_by e f s.formula numbered) (ready.few_parts n s is) ready.short page publishes
+      next_along D (along_all e) s is f numbered (assumed_by e f s.formula numbered) (ready.few_parts n s is) page publishes ready.short
 
 pub derivations_held : DerivationsHeld
-derivations_held D h ready n g e s is =
-    let named = ready.formulas n s is in (
-      (named.0, formed_still D h ready e named.0 s.formula named.1),
-      λ f formed page publishes.
-          let numbered = formed_there sealed_stage g f s.formula formed in
-          next_answers D (along_all D h ready e) s is f numbered (assumed_by D h ready e f s.formula numbered) (ready.few_parts n s is) ready.short page publishes,
-    )
+derivations_held D h ready n g e s is f formed page publishes =
+    let numbered = formed_there sealed_stage g f s.formula formed in
+    next_answers D (along_all D h ready e) s is f numbered (assumed_by D h ready e f s.formula numbered) (ready.few_parts n s is) page publishes ready.short

@@ -5,7 +5,7 @@ use Rattle.std.proofs.lemmas.Option.{slice_get-get_or}
 use Rattle.std.proofs.lemmas.Bool.{and_parts, and_from, cond_both, cond-true, eqb-true, eqb-false, ltb-true, lt-ltb, leb-true, le-leb}
 use Rattle.refusals.specs.declared.Refusal.{Refusal}
 use Rattle.refusals.specs.declared.Refusal.TheVariants.{UnknownKind, BadField}
-use Rattle.refusals.proofs.Answers.{ok_same}
+use Rattle.refusals.proofs.Answers.{ok_not_err, ok_same}
 use Rattle.logic.specs.Formula.{Formula, falsum, implies, next, always}
 use Rattle.formulas.specs.declared.entry.Entry.{Entry}
 use Rattle.formulas.specs.declared.entry.Entry.TheVariants.{False, Atom, Implies, Next, Always}
@@ -28,7 +28,7 @@ module _ (fs : List Formula) (kind left right : ℕ) where
       let p = and_parts unused (placed (length fs) d) t in
       let same_entry : d ≡ e = cc in
       subst (λ (x : Entry). Describes fs kind left right (of_entry (numbered fs) x)) same_entry (here p.0 p.1))
-      (λ _ e is. absurd (let z : ◌≡◌ {A = ℕ} 0 1 = cc in omega arith))
+      (λ _ e is. absurd (ok_not_err (sym is)))
 
   -- an entered number is that of its formula
   there : (n : ℕ) → Dec.ltb n (length fs) ≡ true → Number fs n (numbered fs n)
@@ -58,7 +58,7 @@ module _ (fs : List Formula) (kind left right : ℕ) where
       let ek = eqb-true kind 4 k in
       let er = eqb-true right 0 u in
       rw (ek, er) (always_kind left _ (there left p)))) (λ _ e is.
-      absurd (let z : ◌≡◌ {A = ℕ} 0 1 = cc in omega arith))))))
+      absurd (ok_not_err (sym is)))))))
 
   -- a refusal is for the kind or for a field
   abbrev Refusing : Result Entry Refusal → Type 0
@@ -67,7 +67,7 @@ module _ (fs : List Formula) (kind left right : ℕ) where
   when_refusing : (d : Entry) (unused : Bool) → kind ≤ 4 → Refusing (when_placed (length fs) d unused)
   when_refusing d unused known =
       cond_both (unused && placed (length fs) d) (Ok d) (Err BadField) Refusing
-      (λ _ x is. absurd (let z : ◌≡◌ {A = ℕ} 0 1 = cc in omega arith))
+      (λ _ x is. absurd (ok_not_err is))
       (λ _ x is. let same_refusal : x ≡ BadField = cc in inr (same_refusal, known))
 
   pub asked_refuses : Refusing (asked (length fs) kind left right)

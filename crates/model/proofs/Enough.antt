@@ -9,8 +9,8 @@ use Rattle.refusals.proofs.Answers.{ok_not_err}
 use Rattle.logic.specs.Run.{Run}
 use Rattle.truths.specs.Searching.{first_failing}
 use Rattle.model.specs.Case.{Case}
-use Rattle.model.specs.Calls.{Outcome, says}
-use Rattle.model.specs.Judging.{check, once_checked, true_at, verdict, judge, held_by, truth, refute}
+use Rattle.model.specs.Calls.{Outcome, unchanged}
+use Rattle.model.specs.Judging.{check, once_checked, true_at, judged_by, judge, held_by, truth, refute}
 use Rattle.model.specs.Outcomes.{Unjudgeable, scratch_too_short}
 use Rattle.model.specs.History.{after}
 use Rattle.model.specs.Promises.{ScratchSuffices}
@@ -38,9 +38,9 @@ module _ (c : Case) (few : length c.formulas ≤ 1024) (r : Run) (f i n : ℕ) (
 
   truth_other : Other (truth c r f i n)
   unfolding truth
-  truth_other = behind_check (check c r f i n) (checked c r f i n) (says c (Ok (true_at c r f i))) ok_not_err
+  truth_other = behind_check (check c r f i n) (checked c r f i n) (unchanged c (Ok (true_at c r f i))) ok_not_err
 
-  by_verdict : (o : Option (ℕ × ℕ)) (b : Bool) → Other (held_by c f i (verdict o b))
+  by_verdict : (o : Option (ℕ × ℕ)) (b : Bool) → Other (held_by c f i (judged_by o b))
   by_verdict (Some x) b = other_number (λ is. omega arith)
   by_verdict None b =
       cond_both b (Err FormulaTrue) (Ok tt) (λ (v : Result (Unit {0}) Refusal). Other (held_by c f i v))
@@ -49,7 +49,7 @@ module _ (c : Case) (few : length c.formulas ≤ 1024) (r : Run) (f i n : ℕ) (
   refute_other : Other (refute c r f i n)
   unfolding refute
   refute_other = behind_check (check c r f i n) (checked c r f i n) _
-      (cond_both (Dec.ltb (length c.refutations) 64) (held_by c f i (judge c r f i)) (says c (Err RefutationsFull)) Other
+      (cond_both (Dec.ltb (length c.refutations) 64) (held_by c f i (judge c r f i)) (unchanged c (Err RefutationsFull)) Other
       (λ _. by_verdict (first_failing (true_at c r) (r.stem + r.loop) 0 c.assumptions) (true_at c r f i))
       (λ _. other_number (λ is. omega arith)))
 

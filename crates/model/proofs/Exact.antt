@@ -15,7 +15,7 @@ use Rattle.formulas.specs.Forming.{numbered, answer_for, after_for, form_answer,
 use Rattle.formulas.proofs.Places.{place_is, none_there}
 use Rattle.formulas.proofs.Likeness.{same_tells, eqb_tells}
 use Rattle.model.specs.Case.{Case}
-use Rattle.model.specs.Calls.{Outcome, says, with_formulas, with_assumptions, form, assume}
+use Rattle.model.specs.Calls.{Outcome, unchanged, with_formulas, with_assumptions, form, assume}
 use Rattle.model.specs.Describes.{Describes}
 use Rattle.model.specs.Outcomes.{Forming, unknown_kind, bad_field, formula_there, formulas_full, formula_entered, Assuming, not_entered, assumption_there, assumptions_full, newly_assumed}
 use Rattle.model.specs.Promises.{FormExact, AssumeExact}
@@ -36,10 +36,10 @@ module _ (c : Case) (kind left right : ℕ) where
         by_room true room = formula_entered A described (none_there same same_tells c.formulas A found) (ltb-true (length c.formulas) 1024 room)
         by_room false room = formulas_full A described (none_there same same_tells c.formulas A found) (ltb-false (length c.formulas) 1024 room)
 
-  refusing : (x : Refusal) → asked (length c.formulas) kind left right ≡ Err x → Forming c kind left right (says c (Err x))
+  refusing : (x : Refusal) → asked (length c.formulas) kind left right ≡ Err x → Forming c kind left right (unchanged c (Err x))
   refusing x is = elim (asked_refuses c.formulas kind left right x is) [
-    | inl known ↦ subst (λ (y : Refusal). Forming c kind left right (says c (Err y))) (sym known.0) (unknown_kind known.1)
-    | inr field ↦ subst (λ (y : Refusal). Forming c kind left right (says c (Err y))) (sym field.0)
+    | inl known ↦ subst (λ (y : Refusal). Forming c kind left right (unchanged c (Err y))) (sym known.0) (unknown_kind known.1)
+    | inr field ↦ subst (λ (y : Refusal). Forming c kind left right (unchanged c (Err y))) (sym field.0)
         (bad_field field.1 (λ A d.
         let p = describes_asked c.formulas d in
         ok_not_err (sym p.1 ∙ is)))
@@ -68,6 +68,6 @@ module _ (c : Case) (f : ℕ) (f_in : f < length c.formulas) where
 pub assume_exact : AssumeExact
 unfolding assume
 assume_exact c f =
-    cond_both (Dec.ltb f (length c.formulas)) _ (says c (Err NotEntered)) (Assuming c f)
+    cond_both (Dec.ltb f (length c.formulas)) _ (unchanged c (Err NotEntered)) (Assuming c f)
     (λ t. by_assumed c f (ltb-true f (length c.formulas) t) (place eqb c.assumptions f) refl)
     (λ e. not_entered (ltb-false f (length c.formulas) e))

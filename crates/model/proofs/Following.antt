@@ -48,7 +48,7 @@ module _ (c : Case) where
       let x = nth_there c.lines k (ltb-true k (length c.lines) held) in
       ∥∥₁_map (each k x.0 x.1) (premise_on k x.0 x.1)
 
-  module _ (entered : AssumptionsEntered c) (page : Page) (l : Line) where
+  module _ (entered : AssumptionsEntered c.formulas c.assumptions) (page : Page) (l : Line) where
     -- the formula of an admitted line holds where its premises do
     pub admitted_follows : l.formula < length c.formulas → line_verdict c page l ≡ Admitted
         → PremiseFollows l.first → PremiseFollows l.second → Follows c.formulas c.assumptions l.formula
@@ -82,6 +82,3 @@ module _ (c : Case) where
     module _ (n : ℕ) (is : (line c page l).answer ≡ Ok n) where
       pub held_follows : LineByLine → Follows c.formulas c.assumptions l.formula
       held_follows = allowed_follows (line_allowed c page l n is).1
-
-      pub line_follows : LinesFollow c.formulas c.assumptions c.lines → ∥ Follows c.formulas c.assumptions l.formula ∥₁
-      line_follows = allowed_follows_merely (line_allowed c page l n is).1

@@ -6,7 +6,7 @@ use Rattle.refusals.proofs.Answers.{ok_not_err, ok_same}
 use Rattle.logic.specs.Formula.{Formula}
 use Rattle.formulas.proofs.Members.{nth_push, nth_pushed, nth_stays, distinct_push}
 use Rattle.model.specs.Case.{Case}
-use Rattle.model.specs.Calls.{Outcome, says, with_formulas}
+use Rattle.model.specs.Calls.{Outcome, unchanged, with_formulas}
 use Rattle.model.specs.Describes.{Number, Describes}
 use Rattle.model.specs.Outcomes.{Absent, Forming, unknown_kind, bad_field, formula_there, formulas_full, formula_entered}
 use Rattle.model.specs.Limits.{Closed, Limits}
@@ -15,7 +15,7 @@ use Rattle.model.proofs.Describing.{describes_one, describes_more}
 module _ (c : Case) (kind left right : ℕ) where
   -- the case stays as it is, or has one more formula
   data Changed : Outcome ℕ → Type 0 where
-    stays : (a : Result ℕ Refusal) → Changed (says c a)
+    stays : (a : Result ℕ Refusal) → Changed (unchanged c a)
     one_more : (A : Formula) → Describes c.formulas kind left right A → Absent c.formulas A → length c.formulas < 1024
         → Changed (record { answer = Ok (length c.formulas); after = with_formulas c (c.formulas ++ A ∷ []) })
 
@@ -27,11 +27,11 @@ module _ (c : Case) (kind left right : ℕ) where
   changed (formula_entered A d none room) = one_more A d none room
 
   pub form_refused : {o : Outcome ℕ} → Forming c kind left right o → (e : Refusal) → o.answer ≡ Err e → o.after ≡ c
-  form_refused f e is = unchanged (changed f) is
+  form_refused f e is = same_case (changed f) is
     where
-      unchanged : {o : Outcome ℕ} → Changed o → o.answer ≡ Err e → o.after ≡ c
-      unchanged (stays a) is = refl
-      unchanged (one_more A d none room) is = absurd (ok_not_err is)
+      same_case : {o : Outcome ℕ} → Changed o → o.answer ≡ Err e → o.after ≡ c
+      same_case (stays a) is = refl
+      same_case (one_more A d none room) is = absurd (ok_not_err is)
 
   pub form_assumes_nothing : {o : Outcome ℕ} → Forming c kind left right o → o.after.assumptions ≡ c.assumptions
   form_assumes_nothing f = same_assumptions (changed f)
@@ -103,6 +103,8 @@ module _ (c : Case) (kind left right : ℕ) where
         assumptions_entered = λ k g is. let h : g < length c.formulas = l.assumptions_entered k g is in omega (arith, length_push c.formulas A);
         lines_few = l.lines_few;
         lines_entered = λ n k is. let h : k.formula < length c.formulas = l.lines_entered n k is in omega (arith, length_push c.formulas A);
+        places_earlier = l.places_earlier;
         refutations_few = l.refutations_few;
         refutations_entered = λ n x is. let h : x.formula < length c.formulas = l.refutations_entered n x is in omega (arith, length_push c.formulas A);
+        refutations_within = l.refutations_within;
       }

@@ -52,8 +52,5 @@ held_lines_true s h n l A held formed r keeps =
 
 pub never_both : NeverBoth
 never_both s h n m f i l r A held formed_line refuted formed =
-    let w = lines_follow s h n l held in
-    let b = refutations_have_runs s h m f i r refuted in
-    let same_line : w.formula ≡ A = one_formula (after h).formulas l.formula w.numbered (formed_there s h l.formula A formed_line) in
-    let same_refuted : b.formula ≡ A = one_formula (after h).formulas f b.numbered (formed_there s h f A formed) in
-    b.fails (subst (λ (B : Formula). Throughout r B) (same_line ∙ sym same_refuted) (w.holds r b.keeps) i)
+    let p = refutations_have_runs s h m f i r refuted in
+    p.2 A formed (held_lines_true s h n l A held formed_line r p.0 i)

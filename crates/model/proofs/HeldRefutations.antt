@@ -3,10 +3,13 @@ use Rattle.std.proofs.Common.{◌≡◌, ℕ, List, Some, None, Option, sym, ref
 use Rattle.std.specs.List.{slice_get}
 use Rattle.std.specs.Option.{ok_or}
 use Rattle.refusals.specs.declared.Refusal.TheVariants.{RefutationNotHeld}
+use Rattle.logic.specs.Formula.{Formula}
 use Rattle.logic.specs.Run.{Run}
-use Rattle.formulas.proofs.Members.{some_not_none}
+use Rattle.logic.specs.Truth.{Holds}
+use Rattle.formulas.proofs.Members.{some_same, some_not_none}
 use Rattle.model.specs.declared.refutation.Refutation.{Refutation}
 use Rattle.model.specs.Case.{Case}
+use Rattle.model.specs.Breaking.{Breaks}
 use Rattle.model.specs.History.{Stage, open_stage, sealed_stage, Call, form, assume, truth, line, refute, History, new, then, then_seal, after_call, after, HeldRefutation, refutation_last, refutation_earlier}
 use Rattle.model.specs.Promises.{RefutationsHeld, RefutationsHaveRuns}
 use Rattle.model.proofs.Exact.{form_exact, assume_exact}
@@ -16,7 +19,7 @@ use Rattle.model.proofs.Reading.{read_there, read_none}
 use Rattle.model.proofs.Kept.{breaks_kept}
 use Rattle.model.proofs.LineChanges.{line_assumes_nothing, line_refutes_nothing}
 use Rattle.model.proofs.RefuteChanges.{truth_changes_nothing, refute_forms_nothing, refute_assumes_nothing, refute_brings, refute_keeps, refute_gives, refute_breaks}
-use Rattle.model.proofs.Histories.{call_keeps_formulas, limits_kept}
+use Rattle.model.proofs.Histories.{call_keeps_formulas, formulas_from, formed_there, assumed_there, limits_kept}
 
 -- n is the number of a refutation of f at i
 abbrev There : List Refutation → ℕ → ℕ → ℕ → Type 0
@@ -91,12 +94,23 @@ sealed_assumes_nothing c (truth r f i n) = ap (λ (d : Case). d.assumptions) (tr
 sealed_assumes_nothing c (line page l) = line_assumes_nothing c page l
 sealed_assumes_nothing c (refute r f i n) = refute_assumes_nothing c r f i n
 
-pub refutations_have_runs : RefutationsHaveRuns
-refutations_have_runs open_stage h n f i r p = absurd (no_refutation_open h n _ (held_there open_stage h n f i r p))
-refutations_have_runs sealed_stage h n f i r (refutation_last {h = before} {words = words} is) =
+-- the run of a held refutation breaks its formula
+pub refutation_breaks : (s : Stage) (h : History s) (n f i : ℕ) (r : Run) → HeldRefutation s h n f i r → Breaks (after h).formulas (after h).assumptions r f i
+refutation_breaks open_stage h n f i r p = absurd (no_refutation_open h n _ (held_there open_stage h n f i r p))
+refutation_breaks sealed_stage h n f i r (refutation_last {h = before} {words = words} is) =
     rw (refute_forms_nothing (after before) r f i words, refute_assumes_nothing (after before) r f i words) (refute_breaks (after before) r f i words n (limits_kept sealed_stage before).assumptions_entered is)
-refutations_have_runs sealed_stage h n f i r (refutation_earlier {h = before} {x = x} p) =
+refutation_breaks sealed_stage h n f i r (refutation_earlier {h = before} {x = x} p) =
     let c = after before in
     rw (sealed_assumes_nothing c x)
     (breaks_kept c.formulas (after_call c x).formulas c.assumptions (call_keeps_formulas sealed_stage c x) (limits_kept sealed_stage before).assumptions_entered r f i
-    (refutations_have_runs sealed_stage before n f i r p))
+    (refutation_breaks sealed_stage before n f i r p))
+
+pub refutations_have_runs : RefutationsHaveRuns
+refutations_have_runs s h n f i r held =
+    let b = refutation_breaks s h n f i r held in (
+      λ k a A assumed formed. b.keeps k A (record { number = a; assumed = assumed_there s h k a assumed; numbered = formed_there s h a A formed }),
+      (b.formula, formulas_from s h f b.formula b.numbered),
+      λ A formed holds.
+          let same_formula : b.formula ≡ A = some_same (sym b.numbered ∙ formed_there s h f A formed) in
+          b.fails (subst (λ (B : Formula). Holds r B i) (sym same_formula) holds),
+    )

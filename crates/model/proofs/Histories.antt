@@ -94,8 +94,10 @@ limits_kept s new = record {
   assumptions_entered = λ k f is. absurd (some_not_none (sym is));
   lines_few = omega arith;
   lines_entered = λ n l is. absurd (some_not_none (sym is));
+  places_earlier = λ n l is. absurd (some_not_none (sym is));
   refutations_few = omega arith;
   refutations_entered = λ n x is. absurd (some_not_none (sym is));
+  refutations_within = λ n x is. absurd (some_not_none (sym is));
 }
 limits_kept s (then h (form kind left right)) = form_limits (after h) kind left right (form_exact (after h) kind left right) (limits_kept s h)
 limits_kept s (then h (assume f)) = assume_limits (after h) f (assume_exact (after h) f) (limits_kept open_stage h)

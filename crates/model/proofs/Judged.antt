@@ -18,8 +18,8 @@ use Rattle.truths.proofs.Along.{row_along, row_behind}
 use Rattle.truths.specs.Searching.{first_failing}
 use Rattle.truths.proofs.Failing.{failing, none_failing}
 use Rattle.model.specs.Case.{Case}
-use Rattle.model.specs.Calls.{says}
-use Rattle.model.specs.Judging.{check, once_checked, words_once_checked, true_at, truth, truth_scratch, verdict, judge, held_by, with_room, words_with_room, refute, refute_scratch}
+use Rattle.model.specs.Calls.{unchanged}
+use Rattle.model.specs.Judging.{check, once_checked, words_once_checked, true_at, truth, truth_scratch, judged_by, judge, held_by, with_room, words_with_room, refute, refute_scratch}
 use Rattle.model.specs.Describes.{Number}
 use Rattle.model.specs.Limits.{AssumptionsEntered}
 use Rattle.model.specs.Breaking.{Assumes, Keeps, Breaks}
@@ -54,12 +54,12 @@ module _ (c : Case) (r : Run) (f i : ℕ) where
 
   module _ (words : List ℕ) where
     telling : Judgeable c r f i (length words) → (b : Bool) → true_at c r f i ≡ b
-        → Telling c r f i words (says c (Ok b)) (with_rows r c.formulas words)
+        → Telling c r f i words (unchanged c (Ok b)) (with_rows r c.formulas words)
     telling judgeable true is = told_true judgeable (numbered c.formulas f) (entered_number c.formulas f judgeable.entered) ((decides r (numbered c.formulas f) i).0 is)
     telling judgeable false is = told_false judgeable (numbered c.formulas f) (entered_number c.formulas f judgeable.entered) (fails r (numbered c.formulas f) i is)
 
     truth_by : (k : Result (Unit {0}) Refusal) → Checked (length words) k
-        → Telling c r f i words (once_checked c k (says c (Ok (true_at c r f i)))) (words_once_checked words k (with_rows r c.formulas words))
+        → Telling c r f i words (once_checked c k (unchanged c (Ok (true_at c r f i)))) (words_once_checked words k (with_rows r c.formulas words))
     truth_by (Ok done) judgeable = telling judgeable (true_at c r f i) refl
     truth_by (Err e) unjudgeable = not_told e unjudgeable
 
@@ -67,7 +67,7 @@ pub truth_exact : TruthExact
 unfolding truth truth_scratch
 truth_exact c r f i words = truth_by c r f i words (check c r f i (length words)) (checked c r f i (length words))
 
-module _ (c : Case) (entered : AssumptionsEntered c) (r : Run) where
+module _ (c : Case) (entered : AssumptionsEntered c.formulas c.assumptions) (r : Run) where
   -- what the assumption at a place says, by its number and by its formula
   assumes : (k a : ℕ) → slice_get c.assumptions k ≡ Some a → Assumes c.formulas c.assumptions k (numbered c.formulas a)
   assumes k a is = record { number = a; assumed = is; numbered = entered_number c.formulas a (entered k a is) }
@@ -105,7 +105,7 @@ module _ (c : Case) (entered : AssumptionsEntered c) (r : Run) where
     Refuted v = Refuting c r f i words (held_by c f i v) (with_rows r c.formulas words)
 
     by_verdict : length c.refutations < 64 → (o : Option (ℕ × ℕ)) → first_failing (true_at c r) (r.stem + r.loop) 0 c.assumptions ≡ o
-        → Refuted (verdict o (true_at c r f i))
+        → Refuted (judged_by o (true_at c r f i))
     by_verdict room (Some x) is = assumption_fails judgeable room x.0 x.1 (first_failure x.0 x.1 is)
     by_verdict room None is =
         cond_both (true_at c r f i) (Err FormulaTrue) (Ok tt) Refuted
@@ -113,7 +113,7 @@ module _ (c : Case) (entered : AssumptionsEntered c) (r : Run) where
         (λ false_there. newly_held judgeable room (breaking f i judgeable.entered is false_there))
 
     by_room : (b : Bool) → Dec.ltb (length c.refutations) 64 ≡ b
-        → Refuting c r f i words (cond b (held_by c f i (judge c r f i)) (says c (Err RefutationsFull))) (cond b (with_rows r c.formulas words) words)
+        → Refuting c r f i words (cond b (held_by c f i (judge c r f i)) (unchanged c (Err RefutationsFull))) (cond b (with_rows r c.formulas words) words)
     by_room true room = by_verdict (ltb-true (length c.refutations) 64 room) (first_failing (true_at c r) (r.stem + r.loop) 0 c.assumptions) refl
     by_room false full = refutations_full judgeable (ltb-false (length c.refutations) 64 full)
 
@@ -134,9 +134,9 @@ rows_tell r fs words f i A short is =
     let A_is = numbered_is fs f A is in
     elim (cases_lt i (r.stem + r.loop)) [
       | inl within ↦
-          let says = row_along r fs words f i f_in within short in (
-            λ t. (within, subst (λ (B : Formula). Holds r B i) A_is ((decides r (numbered fs f) i).0 (sym says ∙ t))),
-            λ p. says ∙ (decides r (numbered fs f) i).1 (subst (λ (B : Formula). Holds r B i) (sym A_is) p.1),
+          let told = row_along r fs words f i f_in within short in (
+            λ t. (within, subst (λ (B : Formula). Holds r B i) A_is ((decides r (numbered fs f) i).0 (sym told ∙ t))),
+            λ p. told ∙ (decides r (numbered fs f) i).1 (subst (λ (B : Formula). Holds r B i) (sym A_is) p.1),
           )
       | inr past ↦ (λ t. absurd (false≢true (sym (row_behind r fs words f i f_in past) ∙ t)), λ p. absurd (omega (arith, p.0)))
     ]

@@ -27,7 +27,8 @@ pub mod HeldRefutations
 pub mod HeldLinesTrue
 pub mod NextLine
 pub mod Derivations
+pub mod Enterable
 pub mod Counting
 pub mod Standings
-pub mod Steps
+pub mod AssumeComesTo
 pub mod Promises

@@ -1,5 +1,5 @@
 -- What one call of line brings and keeps.
-use Rattle.std.proofs.Common.{◌≡◌, ℕ, ◌<◌, true, ◌&&◌, ◌⊎◌, ◌∷◌, [], ◌++◌, length, Some, Ok, Err, sym, refl, ap, subst, inl, inr, arith}
+use Rattle.std.proofs.Common.{◌≡◌, ℕ, ◌<◌, true, ◌&&◌, ◌⊎◌, ◌∷◌, [], ◌++◌, length, Some, Ok, Err, Option, sym, refl, ap, ◌∙◌, subst, inl, inr, arith}
 use lib.Dec
 use Rattle.std.specs.List.{slice_get}
 use Rattle.std.proofs.lemmas.List.{length_push}
@@ -13,10 +13,10 @@ use Rattle.calculus.specs.Pages.{Page}
 use Rattle.formulas.proofs.Members.{nth_push, nth_pushed, nth_stays, every_push}
 use Rattle.model.specs.declared.line.Line.{Line}
 use Rattle.model.specs.Case.{Case}
-use Rattle.model.specs.Calls.{Outcome, says}
+use Rattle.model.specs.Calls.{Outcome, unchanged}
 use Rattle.model.specs.Lines.{place_held, line_verdict, line_by, line}
 use Rattle.model.specs.Outcomes.{line_held}
-use Rattle.model.specs.Limits.{Limits}
+use Rattle.model.specs.Limits.{PlacesEarlier, Limits}
 
 module _ (c : Case) (page : Page) (l : Line) where
   -- a line can be held: its formula is entered, its places are held, there is room, and it is admitted
@@ -29,7 +29,7 @@ module _ (c : Case) (page : Page) (l : Line) where
 
   -- the case stays as it is, or has one more line
   data Changed : Outcome ℕ → Type 0 where
-    stays : (e : Refusal) → Changed (says c (Err e))
+    stays : (e : Refusal) → Changed (unchanged c (Err e))
     one_more : Allowed → Changed (line_held c l)
 
   by_verdict : l.formula < length c.formulas → (place_held c l.first && place_held c l.second) ≡ true → length c.lines < 512
@@ -43,20 +43,20 @@ module _ (c : Case) (page : Page) (l : Line) where
   changed : Changed (line c page l)
   unfolding line
   changed =
-      cond_both (Dec.ltb l.formula (length c.formulas)) _ (says c (Err NotEntered)) Changed
-      (λ known. cond_both (place_held c l.first && place_held c l.second) _ (says c (Err LineNotHeld)) Changed
-      (λ placed. cond_both (Dec.ltb (length c.lines) 512) (line_by c l (line_verdict c page l)) (says c (Err LinesFull)) Changed
+      cond_both (Dec.ltb l.formula (length c.formulas)) _ (unchanged c (Err NotEntered)) Changed
+      (λ known. cond_both (place_held c l.first && place_held c l.second) _ (unchanged c (Err LineNotHeld)) Changed
+      (λ placed. cond_both (Dec.ltb (length c.lines) 512) (line_by c l (line_verdict c page l)) (unchanged c (Err LinesFull)) Changed
       (λ few. by_verdict (ltb-true l.formula (length c.formulas) known) placed (ltb-true (length c.lines) 512 few) (line_verdict c page l) refl)
       (λ _. stays LinesFull))
       (λ _. stays LineNotHeld))
       (λ _. stays NotEntered)
 
   pub line_refused : (e : Refusal) → (line c page l).answer ≡ Err e → (line c page l).after ≡ c
-  line_refused e = unchanged changed
+  line_refused e = same_case changed
     where
-      unchanged : {o : Outcome ℕ} → Changed o → o.answer ≡ Err e → o.after ≡ c
-      unchanged (stays x) is = refl
-      unchanged (one_more can) is = absurd (ok_not_err is)
+      same_case : {o : Outcome ℕ} → Changed o → o.answer ≡ Err e → o.after ≡ c
+      same_case (stays x) is = refl
+      same_case (one_more can) is = absurd (ok_not_err is)
 
   pub line_forms_nothing : (line c page l).after.formulas ≡ c.formulas
   line_forms_nothing = same_formulas changed
@@ -114,6 +114,21 @@ module _ (c : Case) (page : Page) (l : Line) where
       allowed (stays e) is = absurd (ok_not_err (sym is))
       allowed (one_more can) is = (sym (ok_same is), can)
 
+  -- where the place of an allowed line is the number of a line, that is an earlier one
+  place_earlier : (p : Option ℕ) → place_held c p ≡ true → (k : ℕ) → p ≡ Some k → k < length c.lines
+  place_earlier p held k is = ltb-true k (length c.lines) (subst (λ (q : Option ℕ). place_held c q ≡ true) is held)
+
+  places_earlier_push : Limits c → Allowed → PlacesEarlier (c.lines ++ l ∷ [])
+  places_earlier_push limits can n m is k at = elim (nth_pushed c.lines l n m is) [
+    | inl old ↦ limits.places_earlier n m old k at
+    | inr here ↦
+        let below : k < length c.lines = elim at [
+          | inl first ↦ place_earlier l.first can.first k (ap (λ (x : Line). x.first) here.1 ∙ first)
+          | inr second ↦ place_earlier l.second can.second k (ap (λ (x : Line). x.second) here.1 ∙ second)
+        ] in
+        omega (arith, here.0, below)
+  ]
+
   pub line_limits : Limits c → Limits (line c page l).after
   line_limits limits = within changed
     where
@@ -128,6 +143,8 @@ module _ (c : Case) (page : Page) (l : Line) where
         assumptions_entered = limits.assumptions_entered;
         lines_few = omega (arith, length_push c.lines l, can.room);
         lines_entered = every_push (λ k. k.formula < length c.formulas) c.lines l limits.lines_entered can.entered;
+        places_earlier = places_earlier_push limits can;
         refutations_few = limits.refutations_few;
         refutations_entered = limits.refutations_entered;
+        refutations_within = limits.refutations_within;
       }

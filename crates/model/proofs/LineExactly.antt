@@ -15,7 +15,7 @@ use Rattle.model.specs.declared.line.Line.{Line}
 use Rattle.model.specs.Case.{Case}
 use Rattle.model.specs.Lines.{place_held, premise, assumption_verdict, line_verdict, line}
 use Rattle.model.specs.Limits.{LinesEntered}
-use Rattle.model.specs.Outcomes.{Premise, no_premise, on_line, Stated, line_held}
+use Rattle.model.specs.Outcomes.{Premise, no_premise, on_line, Stated, StatesAssumption, line_held}
 use Rattle.model.specs.Promises.{CalculusGives, as_assumption, by_its_rule, LineHeldExactly}
 use Rattle.model.proofs.Describing.{numbered_is}
 use Rattle.model.proofs.AssumptionLines.{assumption_admitted, assumption_admits}
@@ -51,6 +51,20 @@ module _ (c : Case) where
         → v l.rule (numbered c.formulas l.formula) (premise c l.first) (premise c l.second) ≡ v l.rule s.formula s.first s.second
     says_of_stated s v = rw (numbered_is c.formulas l.formula s.formula s.numbered, premise_read s.first_is, premise_read s.second_is) refl
 
+    -- where the line's rule is the page's, the verdict is the page's on what is stated
+    pub page_verdict : (s : Stated c l) → l.rule ≢ 0 → line_verdict c page l ≡ page.verdict l.rule s.formula s.first s.second
+    page_verdict s other = cond-false (eqb l.rule 0) _ _ (ne_eqb l.rule 0 other) ∙ says_of_stated s page.verdict
+
+    -- and by rule 0 a line that states an assumption is admitted
+    pub assumption_line_admitted : StatesAssumption c l → line_verdict c page l ≡ Admitted
+    assumption_line_admitted a = cond-true (eqb l.rule 0) _ _ (eq-eqb l.rule 0 a.rule) ∙ assumption_admits c l a
+
+    -- a stated line that is admitted is held, if there is room
+    pub stated_held : Stated c l → length c.lines < 512 → line_verdict c page l ≡ Admitted → line c page l ≡ line_held c l
+    stated_held s room admitted =
+        let placed = and_from (place_held c l.first) (place_held c l.second) (premise_held s.first_is) (premise_held s.second_is) in
+        line_judged_as c page l (nth_within c.formulas l.formula s.numbered) placed room Admitted admitted
+
     -- a line that the calculus gives is stated
     given_stated : CalculusGives c l → Stated c l
     given_stated (as_assumption s a) = s
@@ -58,20 +72,16 @@ module _ (c : Case) where
 
     -- and it is admitted, if the page's verdicts on its rule are published
     given_admitted : (1 ≤ l.rule → l.rule ≤ 7 → page.verdict l.rule ≡ published l.rule) → CalculusGives c l → line_verdict c page l ≡ Admitted
-    given_admitted publishes (as_assumption s a) = cond-true (eqb l.rule 0) _ _ (eq-eqb l.rule 0 a.rule) ∙ assumption_admits c l a
+    given_admitted publishes (as_assumption s a) = assumption_line_admitted a
     given_admitted publishes (by_its_rule s gives few) =
         let between = rule_number gives in
-        cond-false (eqb l.rule 0) _ _ (ne_eqb l.rule 0 (λ zero. omega arith))
-        ∙ says_of_stated s page.verdict
+        page_verdict s (λ zero. omega arith)
         ∙ ap (λ v. v s.formula s.first s.second) (publishes between.0 between.1)
         ∙ (published_exact l.rule s.formula s.first s.second).1 (gives, few)
 
     -- so that it is held, if there is room
-    pub given_held : length c.lines < 512 → (1 ≤ l.rule → l.rule ≤ 7 → page.verdict l.rule ≡ published l.rule) → CalculusGives c l → line c page l ≡ line_held c l
-    given_held room publishes given =
-        let s = given_stated given in
-        let placed = and_from (place_held c l.first) (place_held c l.second) (premise_held s.first_is) (premise_held s.second_is) in
-        line_judged_as c page l (nth_within c.formulas l.formula s.numbered) placed room Admitted (given_admitted publishes given)
+    given_held : length c.lines < 512 → (1 ≤ l.rule → l.rule ≤ 7 → page.verdict l.rule ≡ published l.rule) → CalculusGives c l → line c page l ≡ line_held c l
+    given_held room publishes given = stated_held (given_stated given) room (given_admitted publishes given)
 
     -- a stated line that is admitted is given
     admitted_given : (l.rule ≢ 0 → page.verdict l.rule ≡ published l.rule) → Stated c l → line_verdict c page l ≡ Admitted → CalculusGives c l
@@ -83,10 +93,12 @@ module _ (c : Case) where
         let g = (published_exact l.rule s.formula s.first s.second).0 admits in
         by_its_rule s g.0 g.1)
 
-    allowed_given : LinesEntered c → (l.rule ≢ 0 → page.verdict l.rule ≡ published l.rule) → Allowed c page l → CalculusGives c l
-    allowed_given entered publishes can =
-        let placed = and_from (place_held c l.first) (place_held c l.second) can.first can.second in
-        admitted_given publishes (stated c entered page l can.entered placed) can.admitted
+    -- a line that can be held is stated
+    pub allowed_stated : LinesEntered c.formulas c.lines → Allowed c page l → Stated c l
+    allowed_stated entered can = stated c entered page l can.entered (and_from (place_held c l.first) (place_held c l.second) can.first can.second)
+
+    allowed_given : LinesEntered c.formulas c.lines → (l.rule ≢ 0 → page.verdict l.rule ≡ published l.rule) → Allowed c page l → CalculusGives c l
+    allowed_given entered publishes can = admitted_given publishes (allowed_stated entered can) can.admitted
 
 pub line_held_exactly : LineHeldExactly
 line_held_exactly c entered page l n publishes = (

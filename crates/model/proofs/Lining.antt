@@ -10,7 +10,7 @@ use Rattle.formulas.specs.Forming.{numbered}
 use Rattle.formulas.proofs.Members.{nth_there}
 use Rattle.model.specs.declared.line.Line.{Line}
 use Rattle.model.specs.Case.{Case}
-use Rattle.model.specs.Calls.{says}
+use Rattle.model.specs.Calls.{unchanged}
 use Rattle.model.specs.Lines.{place_held, premise, assumption_verdict, line_verdict, line_by, line}
 use Rattle.model.specs.Limits.{LinesEntered}
 use Rattle.model.specs.Outcomes.{Premise, no_premise, on_line, Stated, Lining, formula_not_entered, place_not_held, lines_full, assumption_line, no_assumption, page_admits, page_does_not_admit, page_beyond_limit}
@@ -23,7 +23,7 @@ pub unheld : (c : Case) (p : Option ℕ) → place_held c p ≡ false → (k : �
 unheld c None is = absurd (true≢false is)
 unheld c (Some k) is = (k, refl, ltb-false k (length c.lines) is)
 
-module _ (c : Case) (entered : LinesEntered c) where
+module _ (c : Case) (entered : LinesEntered c.formulas c.lines) where
   -- a place that is held has a premise
   pub premise_is : (p : Option ℕ) → place_held c p ≡ true → Premise c p (premise c p)
   premise_is None held = no_premise
@@ -45,7 +45,7 @@ module _ (c : Case) (entered : LinesEntered c) where
           second_is = premise_is l.second p.1;
         }
 
-    unplaced : l.formula < length c.formulas → (place_held c l.first && place_held c l.second) ≡ false → Lining c page l (says c (Err LineNotHeld))
+    unplaced : l.formula < length c.formulas → (place_held c l.first && place_held c l.second) ≡ false → Lining c page l (unchanged c (Err LineNotHeld))
     unplaced known not_placed = elim (cases_Bool (place_held c l.first)) [
       | inr first ↦ let k = unheld c l.first first in place_not_held known k.0 (inl k.1) k.2
       | inl first ↦ elim (cases_Bool (place_held c l.second)) [
@@ -75,10 +75,10 @@ module _ (c : Case) (entered : LinesEntered c) where
 pub line_exact : LineExact
 unfolding line
 line_exact c entered page l =
-    cond_both (Dec.ltb l.formula (length c.formulas)) _ (says c (Err NotEntered)) (Lining c page l)
+    cond_both (Dec.ltb l.formula (length c.formulas)) _ (unchanged c (Err NotEntered)) (Lining c page l)
     (λ known. let f_in = ltb-true l.formula (length c.formulas) known in
-    cond_both (place_held c l.first && place_held c l.second) _ (says c (Err LineNotHeld)) (Lining c page l)
-    (λ placed. cond_both (Dec.ltb (length c.lines) 512) (line_by c l (line_verdict c page l)) (says c (Err LinesFull)) (Lining c page l)
+    cond_both (place_held c l.first && place_held c l.second) _ (unchanged c (Err LineNotHeld)) (Lining c page l)
+    (λ placed. cond_both (Dec.ltb (length c.lines) 512) (line_by c l (line_verdict c page l)) (unchanged c (Err LinesFull)) (Lining c page l)
     (λ few. by_rule c entered page l f_in placed (ltb-true (length c.lines) 512 few))
     (λ full. lines_full (stated c entered page l f_in placed) (ltb-false (length c.lines) 512 full)))
     (unplaced c entered page l f_in))

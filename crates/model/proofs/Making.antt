@@ -2,7 +2,7 @@
 use Rattle.std.proofs.Common.{◌≡◌, List, sym, refl, ap, subst}
 use Rattle.model.specs.Case.{Case}
 use Rattle.model.specs.History.{Stage, Call, History, then, after_call, after, Refused, Leads, no_more, refused_call, answered_call}
-use Rattle.model.specs.Making.{Makes, no_more as nothing_made, refused_call as refused_made, answered_call as answered_made}
+use Rattle.model.specs.Making.{Makes, nothing_made, refused_made, answered_made}
 
 module _ (s : Stage) where
   -- made behind a history, calls make one that ends in a case

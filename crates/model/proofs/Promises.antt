@@ -11,6 +11,7 @@ use Rattle.model.proofs.Histories.{refusals_change_nothing, formulas_formed, ass
 use Rattle.model.proofs.HeldLines.{lines_held}
 use Rattle.model.proofs.HeldLinesTrue.{held_lines_true, never_both}
 use Rattle.model.proofs.Derivations.{derivations_held}
+use Rattle.model.proofs.Enterable.{derivations_can_be_entered}
 use Rattle.model.proofs.HeldRefutations.{refutations_held, refutations_have_runs}
 use Rattle.model.proofs.Counting.{counts_tell}
 use Rattle.model.proofs.Standings.{standing_tells}
@@ -33,6 +34,7 @@ promises = record {
   held_lines_true = held_lines_true;
   never_both = never_both;
   derivations_held = derivations_held;
+  derivations_can_be_entered = derivations_can_be_entered;
   refutations_held = refutations_held;
   refutations_have_runs = refutations_have_runs;
   counts_tell = counts_tell;

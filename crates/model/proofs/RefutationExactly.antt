@@ -7,7 +7,7 @@ use Rattle.logic.proofs.Decided.{decides}
 use Rattle.formulas.specs.Forming.{numbered}
 use Rattle.truths.specs.Searching.{first_failing}
 use Rattle.model.specs.Case.{Case}
-use Rattle.model.specs.Judging.{true_at, verdict, judge}
+use Rattle.model.specs.Judging.{true_at, judged_by, judge}
 use Rattle.model.specs.Breaking.{Breaks}
 use Rattle.model.specs.Limits.{AssumptionsEntered}
 use Rattle.model.specs.Promises.{RefutationHeldExactly}
@@ -17,7 +17,7 @@ use Rattle.model.proofs.Judged.{first_failure}
 use Rattle.model.proofs.RefuteChanges.{refute_allowed, refute_breaks}
 use Rattle.model.proofs.RefuteComesTo.{refute_judged}
 
-module _ (c : Case) (entered : AssumptionsEntered c) (r : Run) (f i : ℕ) (b : Breaks c.formulas c.assumptions r f i) where
+module _ (c : Case) (entered : AssumptionsEntered c.formulas c.assumptions) (r : Run) (f i : ℕ) (b : Breaks c.formulas c.assumptions r f i) where
   -- no assumption fails
   none_fails : (o : Option (ℕ × ℕ)) → first_failing (true_at c r) (r.stem + r.loop) 0 c.assumptions ≡ o → o ≡ None
   none_fails (Some x) is = absurd (let p = first_failure c entered r x.0 x.1 is in p.fails (b.keeps x.0 p.formula p.assumed x.1))
@@ -29,7 +29,7 @@ module _ (c : Case) (entered : AssumptionsEntered c) (r : Run) (f i : ℕ) (b : 
   is_false false is = refl
 
   judged : judge c r f i ≡ Ok tt
-  judged = ap₂ verdict (none_fails (first_failing (true_at c r) (r.stem + r.loop) 0 c.assumptions) refl) (is_false (true_at c r f i) refl)
+  judged = ap₂ judged_by (none_fails (first_failing (true_at c r) (r.stem + r.loop) 0 c.assumptions) refl) (is_false (true_at c r f i) refl)
 
 pub refutation_held_exactly : RefutationHeldExactly
 refutation_held_exactly c entered r f i n m = (

@@ -12,8 +12,8 @@ use Rattle.formulas.proofs.Members.{nth_push, nth_pushed, nth_stays, every_push}
 use Rattle.truths.specs.Searching.{first_failing}
 use Rattle.model.specs.declared.refutation.Refutation.{Refutation}
 use Rattle.model.specs.Case.{Case}
-use Rattle.model.specs.Calls.{Outcome, says}
-use Rattle.model.specs.Judging.{with_refutations, check, once_checked, true_at, verdict, judge, held_by, with_room, truth, refute}
+use Rattle.model.specs.Calls.{Outcome, unchanged}
+use Rattle.model.specs.Judging.{with_refutations, check, once_checked, true_at, judged_by, judge, held_by, with_room, truth, refute}
 use Rattle.model.specs.Breaking.{Breaks}
 use Rattle.model.specs.Outcomes.{Judgeable}
 use Rattle.model.specs.Limits.{AssumptionsEntered, Limits}
@@ -24,18 +24,18 @@ pub truth_changes_nothing : (c : Case) (r : Run) (f i n : ℕ) → (truth c r f 
 unfolding truth
 truth_changes_nothing c r f i n = behind_check (check c r f i n)
   where
-    behind_check : (k : Result (Unit {0}) Refusal) → (once_checked c k (says c (Ok (true_at c r f i)))).after ≡ c
+    behind_check : (k : Result (Unit {0}) Refusal) → (once_checked c k (unchanged c (Ok (true_at c r f i)))).after ≡ c
     behind_check (Ok done) = refl
     behind_check (Err e) = refl
 
 -- what a verdict that holds the refutation comes from
-verdict_held : (o : Option (ℕ × ℕ)) (b : Bool) → verdict o b ≡ Ok tt → (o ≡ None) × (b ≡ false)
+verdict_held : (o : Option (ℕ × ℕ)) (b : Bool) → judged_by o b ≡ Ok tt → (o ≡ None) × (b ≡ false)
 verdict_held (Some x) b is = absurd (ok_not_err (sym is))
 verdict_held None true is = absurd (ok_not_err (sym is))
 verdict_held None false is = (refl, refl)
 
 module _ (c : Case) (r : Run) (f i : ℕ) where
-  pub judged_breaks : AssumptionsEntered c → f < length c.formulas → judge c r f i ≡ Ok tt
+  pub judged_breaks : AssumptionsEntered c.formulas c.assumptions → f < length c.formulas → judge c r f i ≡ Ok tt
       → Breaks c.formulas c.assumptions r f i
   judged_breaks entered f_in is =
       let p = verdict_held (first_failing (true_at c r) (r.stem + r.loop) 0 c.assumptions) (true_at c r f i) is in
@@ -43,8 +43,8 @@ module _ (c : Case) (r : Run) (f i : ℕ) where
 
   -- the case stays as it is, or has one more refutation, by a run that breaks the formula
   data Changed (n : ℕ) : Outcome ℕ → Type 0 where
-    stays : (e : Refusal) → Changed n (says c (Err e))
-    one_more : Judgeable c r f i n → length c.refutations < 64 → (AssumptionsEntered c → Breaks c.formulas c.assumptions r f i)
+    stays : (e : Refusal) → Changed n (unchanged c (Err e))
+    one_more : Judgeable c r f i n → length c.refutations < 64 → (AssumptionsEntered c.formulas c.assumptions → Breaks c.formulas c.assumptions r f i)
         → Changed n (record { answer = Ok (length c.refutations); after = with_refutations c (c.refutations ++ record { formula = f; position = i } ∷ []) })
 
   by_judged : (n : ℕ) → Judgeable c r f i n → length c.refutations < 64 → (v : Result (Unit {0}) Refusal) → judge c r f i ≡ v → Changed n (held_by c f i v)
@@ -54,7 +54,7 @@ module _ (c : Case) (r : Run) (f i : ℕ) where
   by_check : (n : ℕ) (k : Result (Unit {0}) Refusal) → Checked c r f i n k
       → Changed n (once_checked c k (with_room c r f i))
   by_check n (Ok done) judgeable =
-      cond_both (Dec.ltb (length c.refutations) 64) (held_by c f i (judge c r f i)) (says c (Err RefutationsFull)) (Changed n)
+      cond_both (Dec.ltb (length c.refutations) 64) (held_by c f i (judge c r f i)) (unchanged c (Err RefutationsFull)) (Changed n)
       (λ room. by_judged n judgeable (ltb-true (length c.refutations) 64 room) (judge c r f i) refl)
       (λ full. stays RefutationsFull)
   by_check n (Err e) unjudgeable = stays e
@@ -65,11 +65,11 @@ module _ (c : Case) (r : Run) (f i : ℕ) where
 
   module _ (n : ℕ) where
     pub refute_refused : (e : Refusal) → (refute c r f i n).answer ≡ Err e → (refute c r f i n).after ≡ c
-    refute_refused e = unchanged (changed n)
+    refute_refused e = same_case (changed n)
       where
-        unchanged : {o : Outcome ℕ} → Changed n o → o.answer ≡ Err e → o.after ≡ c
-        unchanged (stays x) is = refl
-        unchanged (one_more judgeable room breaks) is = absurd (ok_not_err is)
+        same_case : {o : Outcome ℕ} → Changed n o → o.answer ≡ Err e → o.after ≡ c
+        same_case (stays x) is = refl
+        same_case (one_more judgeable room breaks) is = absurd (ok_not_err is)
 
     pub refute_forms_nothing : (refute c r f i n).after.formulas ≡ c.formulas
     refute_forms_nothing = same_formulas (changed n)
@@ -121,7 +121,7 @@ module _ (c : Case) (r : Run) (f i : ℕ) where
             let x : Refutation = record { formula = f; position = i } in
             subst (λ (k : ℕ). slice_get (c.refutations ++ x ∷ []) k ≡ Some x) (ok_same is) (nth_push c.refutations x)
 
-    pub refute_breaks : (m : ℕ) → AssumptionsEntered c → (refute c r f i n).answer ≡ Ok m → Breaks c.formulas c.assumptions r f i
+    pub refute_breaks : (m : ℕ) → AssumptionsEntered c.formulas c.assumptions → (refute c r f i n).answer ≡ Ok m → Breaks c.formulas c.assumptions r f i
     refute_breaks m entered = broken (changed n)
       where
         broken : {o : Outcome ℕ} → Changed n o → o.answer ≡ Ok m → Breaks c.formulas c.assumptions r f i
@@ -150,6 +150,8 @@ module _ (c : Case) (r : Run) (f i : ℕ) where
           assumptions_entered = l.assumptions_entered;
           lines_few = l.lines_few;
           lines_entered = l.lines_entered;
+          places_earlier = l.places_earlier;
           refutations_few = omega (arith, length_push c.refutations (record { formula = f; position = i }));
           refutations_entered = every_push (λ x. x.formula < length c.formulas) c.refutations (record { formula = f; position = i }) l.refutations_entered judgeable.entered;
+          refutations_within = every_push (λ x. x.position < 256) c.refutations (record { formula = f; position = i }) l.refutations_within (omega (arith, judgeable.short, judgeable.within));
         }

@@ -7,16 +7,16 @@ use Rattle.refusals.specs.declared.Refusal.TheVariants.{RefutationsFull}
 use Rattle.logic.specs.Run.{Run}
 use Rattle.truths.specs.Along.{with_rows}
 use Rattle.model.specs.Case.{Case}
-use Rattle.model.specs.Calls.{says}
+use Rattle.model.specs.Calls.{unchanged}
 use Rattle.model.specs.Judging.{check, once_checked, words_once_checked, judge, held_by, with_room, words_with_room, refute, refute_scratch}
 
 module _ (c : Case) (r : Run) (f i : ℕ) where
   module _ (full : 64 ≤ length c.refutations) where
-    pub refute_full : (n : ℕ) → check c r f i n ≡ Ok tt → refute c r f i n ≡ says c (Err RefutationsFull)
+    pub refute_full : (n : ℕ) → check c r f i n ≡ Ok tt → refute c r f i n ≡ unchanged c (Err RefutationsFull)
     unfolding refute
     refute_full n passed =
         ap (λ k. once_checked c k (with_room c r f i)) passed
-        ∙ cond-false (Dec.ltb (length c.refutations) 64) (held_by c f i (judge c r f i)) (says c (Err RefutationsFull)) (le-ltb (length c.refutations) 64 full)
+        ∙ cond-false (Dec.ltb (length c.refutations) 64) (held_by c f i (judge c r f i)) (unchanged c (Err RefutationsFull)) (le-ltb (length c.refutations) 64 full)
 
     pub scratch_full : (words : List ℕ) → check c r f i (length words) ≡ Ok tt → refute_scratch c r f i words ≡ words
     unfolding refute_scratch
@@ -29,7 +29,7 @@ module _ (c : Case) (r : Run) (f i : ℕ) where
     unfolding refute
     refute_judged n passed v is =
         ap (λ k. once_checked c k (with_room c r f i)) passed
-        ∙ cond-true (Dec.ltb (length c.refutations) 64) (held_by c f i (judge c r f i)) (says c (Err RefutationsFull)) (lt-ltb (length c.refutations) 64 room) ∙ ap (held_by c f i) is
+        ∙ cond-true (Dec.ltb (length c.refutations) 64) (held_by c f i (judge c r f i)) (unchanged c (Err RefutationsFull)) (lt-ltb (length c.refutations) 64 room) ∙ ap (held_by c f i) is
 
     pub scratch_judged : (words : List ℕ) → check c r f i (length words) ≡ Ok tt → refute_scratch c r f i words ≡ with_rows r c.formulas words
     unfolding refute_scratch

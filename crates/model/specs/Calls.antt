@@ -7,14 +7,16 @@ use Rattle.formulas.specs.Adding.{place, add_answer, add_after}
 use Rattle.formulas.specs.Forming.{form_answer, form_after}
 use Rattle.model.specs.Case.{Case}
 
+-- what a call answers, and the case that it leaves
 pub record Outcome (A : Type 0) : Type 0 where
   pub answer : Result A Refusal
   pub after : Case
 
 -- an answer that leaves the case as it is
-abbrev pub says : {A : Type 0} → Case → Result A Refusal → Outcome A
-says c a = record { answer = a; after = c }
+abbrev pub unchanged : {A : Type 0} → Case → Result A Refusal → Outcome A
+unchanged c a = record { answer = a; after = c }
 
+-- a case with other formulas, and below with other assumptions; with_lines and with_refutations do the same for what is held
 abbrev pub with_formulas : Case → List Formula → Case
 with_formulas c fs = record { formulas = fs; assumptions = c.assumptions; lines = c.lines; refutations = c.refutations }
 
@@ -36,4 +38,4 @@ assume c f =
       answer = add_answer 16 AssumptionsFull c.assumptions (place nat_eq c.assumptions f);
       after = with_assumptions c (add_after 16 c.assumptions f (place nat_eq c.assumptions f));
     })
-    (says c (Err NotEntered))
+    (unchanged c (Err NotEntered))

@@ -11,5 +11,6 @@ pub record Case : Type 0 where
   pub lines : List Line
   pub refutations : List Refutation
 
+-- a new case
 abbrev pub empty : Case
 empty = record { formulas = []; assumptions = []; lines = []; refutations = [] }

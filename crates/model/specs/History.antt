@@ -11,11 +11,12 @@ use Rattle.model.specs.Lines as lines
 use Rattle.model.specs.Judging as judging
 use Rattle.model.specs.Describes.{Describes}
 
+-- a case is open until it is sealed
 pub data Stage : Type 0 where
   open_stage : Stage
   sealed_stage : Stage
 
--- a call, by the stage at which it can be made. form: a kind and two fields; assume: a formula's number; line: a page of rules and a line; truth and refute: a run, a formula's number, a position, and how many scratch words there are, all of their own
+-- a call, by the stage at which it can be made. form: a kind and two fields; assume: a formula's number; line: a page of rules and a line; truth and refute: a run, a formula's number, a position, and how many scratch words there are. Page, run and scratch words are what each call brings itself
 pub data Call : Stage → Type 0 where
   form : {s : Stage} → ℕ → ℕ → ℕ → Call s
   assume : ℕ → Call open_stage

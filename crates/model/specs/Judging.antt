@@ -9,8 +9,9 @@ use Rattle.truths.specs.Along.{with_rows}
 use Rattle.truths.specs.Searching.{first_failing}
 use Rattle.model.specs.declared.refutation.Refutation.{Refutation}
 use Rattle.model.specs.Case.{Case}
-use Rattle.model.specs.Calls.{Outcome, says}
+use Rattle.model.specs.Calls.{Outcome, unchanged}
 
+-- a case with other refutations
 abbrev pub with_refutations : Case → List Refutation → Case
 with_refutations c xs = record { formulas = c.formulas; assumptions = c.assumptions; lines = c.lines; refutations = xs }
 
@@ -26,11 +27,12 @@ check c r f i n =
     (Err RunTooLong))
     (Err NotEntered)
 
--- what comes behind the checks: where one of them refuses, the case, and below the scratch words, stay as they are
+-- what comes behind the checks: where one of them refuses, the case stays as it is, and so do the scratch words, below
 abbrev pub once_checked : {A : Type 0} → Case → Result (Unit {0}) Refusal → Outcome A → Outcome A
 once_checked c (Ok done) rest = rest
-once_checked c (Err e) rest = says c (Err e)
+once_checked c (Err e) rest = unchanged c (Err e)
 
+-- the scratch words behind the checks
 abbrev pub words_once_checked : List ℕ → Result (Unit {0}) Refusal → List ℕ → List ℕ
 words_once_checked words (Ok done) rest = rest
 words_once_checked words (Err e) rest = words
@@ -41,19 +43,20 @@ true_at c r f i = decide.truth r (numbered c.formulas f) i
 
 -- the truth of a formula at a position of a run
 unfoldable pub truth : Case → Run → ℕ → ℕ → ℕ → Outcome Bool
-truth c r f i n = once_checked c (check c r f i n) (says c (Ok (true_at c r f i)))
+truth c r f i n = once_checked c (check c r f i n) (unchanged c (Ok (true_at c r f i)))
 
 -- the scratch words then hold the rows of all formulas
 unfoldable pub truth_scratch : Case → Run → ℕ → ℕ → List ℕ → List ℕ
 truth_scratch c r f i words = words_once_checked words (check c r f i (length words)) (with_rows r c.formulas words)
 
 -- a run is no refutation if an assumption is false somewhere, or else if the formula is true at the position
-abbrev pub verdict : Option (ℕ × ℕ) → Bool → Result (Unit {0}) Refusal
-verdict (Some x) b = Err (AssumptionFalse x.0 x.1)
-verdict None b = cond b (Err FormulaTrue) (Ok tt)
+abbrev pub judged_by : Option (ℕ × ℕ) → Bool → Result (Unit {0}) Refusal
+judged_by (Some x) b = Err (AssumptionFalse x.0 x.1)
+judged_by None b = cond b (Err FormulaTrue) (Ok tt)
 
+-- whether a run refutes a formula at a position
 abbrev pub judge : Case → Run → ℕ → ℕ → Result (Unit {0}) Refusal
-judge c r f i = verdict (first_failing (true_at c r) (r.stem + r.loop) 0 c.assumptions) (true_at c r f i)
+judge c r f i = judged_by (first_failing (true_at c r) (r.stem + r.loop) 0 c.assumptions) (true_at c r f i)
 
 -- the refutation is held if the run is one
 abbrev pub held_by : Case → ℕ → ℕ → Result (Unit {0}) Refusal → Outcome ℕ
@@ -61,12 +64,13 @@ held_by c f i (Ok done) = record {
   answer = Ok (length c.refutations);
   after = with_refutations c (c.refutations ++ record { formula = f; position = i } ∷ []);
 }
-held_by c f i (Err e) = says c (Err e)
+held_by c f i (Err e) = unchanged c (Err e)
 
 -- a case holds 64 refutations: a formula is judged if there is room for one more
 abbrev pub with_room : Case → Run → ℕ → ℕ → Outcome ℕ
-with_room c r f i = cond (nat_lt (length c.refutations) 64) (held_by c f i (judge c r f i)) (says c (Err RefutationsFull))
+with_room c r f i = cond (nat_lt (length c.refutations) 64) (held_by c f i (judge c r f i)) (unchanged c (Err RefutationsFull))
 
+-- the scratch words then: without room they stay as they are
 abbrev pub words_with_room : Case → Run → List ℕ → List ℕ
 words_with_room c r words = cond (nat_lt (length c.refutations) 64) (with_rows r c.formulas words) words
 

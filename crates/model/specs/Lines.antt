@@ -11,8 +11,9 @@ use Rattle.formulas.specs.Adding.{place}
 use Rattle.formulas.specs.Forming.{numbered}
 use Rattle.model.specs.declared.line.Line.{Line}
 use Rattle.model.specs.Case.{Case}
-use Rattle.model.specs.Calls.{Outcome, says}
+use Rattle.model.specs.Calls.{Outcome, unchanged}
 
+-- a case with other lines
 abbrev pub with_lines : Case → List Line → Case
 with_lines c ls = record { formulas = c.formulas; assumptions = c.assumptions; lines = ls; refutations = c.refutations }
 
@@ -39,8 +40,8 @@ line_verdict c page l =
 -- a line is held if it is admitted
 abbrev pub line_by : Case → Line → Verdict → Outcome ℕ
 line_by c l Admitted = record { answer = Ok (length c.lines); after = with_lines c (c.lines ++ l ∷ []) }
-line_by c l NotAdmitted = says c (Err NotAdmittedRefusal)
-line_by c l BeyondLimit = says c (Err BeyondLimitRefusal)
+line_by c l NotAdmitted = unchanged c (Err NotAdmittedRefusal)
+line_by c l BeyondLimit = unchanged c (Err BeyondLimitRefusal)
 
 -- a line is entered under a page; a case holds 512
 unfoldable pub line : Case → Page → Line → Outcome ℕ
@@ -48,6 +49,6 @@ line c page l =
     cond (nat_lt l.formula (length c.formulas))
     (cond (place_held c l.first && place_held c l.second)
     (cond (nat_lt (length c.lines) 512) (line_by c l (line_verdict c page l))
-    (says c (Err LinesFull)))
-    (says c (Err LineNotHeld)))
-    (says c (Err NotEntered))
+    (unchanged c (Err LinesFull)))
+    (unchanged c (Err LineNotHeld)))
+    (unchanged c (Err NotEntered))

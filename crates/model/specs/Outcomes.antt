@@ -11,7 +11,7 @@ use Rattle.calculus.specs.Pages.{Page}
 use Rattle.truths.specs.Along.{with_rows}
 use Rattle.model.specs.declared.line.Line.{Line}
 use Rattle.model.specs.Case.{Case}
-use Rattle.model.specs.Calls.{Outcome, says, with_formulas, with_assumptions}
+use Rattle.model.specs.Calls.{Outcome, unchanged, with_formulas, with_assumptions}
 use Rattle.model.specs.Lines.{with_lines}
 use Rattle.model.specs.Judging.{with_refutations}
 use Rattle.model.specs.Describes.{Number, Describes}
@@ -23,18 +23,18 @@ Absent xs x = (k : ℕ) → slice_get xs k ≢ Some x
 
 -- form: the kind is above 4; the fields describe no formula; or they describe one, which is there, is new and finds the list full, or is new and entered
 pub data Forming (c : Case) (kind left right : ℕ) : Outcome ℕ → Type 0 where
-  unknown_kind : 4 < kind → Forming c kind left right (says c (Err UnknownKind))
-  bad_field : kind ≤ 4 → ((A : Formula) → Describes c.formulas kind left right A → ⊥) → Forming c kind left right (says c (Err BadField))
-  formula_there : (A : Formula) → Describes c.formulas kind left right A → (n : ℕ) → slice_get c.formulas n ≡ Some A → Forming c kind left right (says c (Ok n))
-  formulas_full : (A : Formula) → Describes c.formulas kind left right A → Absent c.formulas A → 1024 ≤ length c.formulas → Forming c kind left right (says c (Err FormulasFull))
+  unknown_kind : 4 < kind → Forming c kind left right (unchanged c (Err UnknownKind))
+  bad_field : kind ≤ 4 → ((A : Formula) → Describes c.formulas kind left right A → ⊥) → Forming c kind left right (unchanged c (Err BadField))
+  formula_there : (A : Formula) → Describes c.formulas kind left right A → (n : ℕ) → slice_get c.formulas n ≡ Some A → Forming c kind left right (unchanged c (Ok n))
+  formulas_full : (A : Formula) → Describes c.formulas kind left right A → Absent c.formulas A → 1024 ≤ length c.formulas → Forming c kind left right (unchanged c (Err FormulasFull))
   formula_entered : (A : Formula) → Describes c.formulas kind left right A → Absent c.formulas A → length c.formulas < 1024
       → Forming c kind left right (record { answer = Ok (length c.formulas); after = with_formulas c (c.formulas ++ A ∷ []) })
 
 -- assume: the formula is not entered; or it is, and is assumed already, is new and finds the list full, or is new and assumed
 pub data Assuming (c : Case) (f : ℕ) : Outcome ℕ → Type 0 where
-  not_entered : length c.formulas ≤ f → Assuming c f (says c (Err NotEntered))
-  assumption_there : f < length c.formulas → (k : ℕ) → slice_get c.assumptions k ≡ Some f → Assuming c f (says c (Ok k))
-  assumptions_full : f < length c.formulas → Absent c.assumptions f → 16 ≤ length c.assumptions → Assuming c f (says c (Err AssumptionsFull))
+  not_entered : length c.formulas ≤ f → Assuming c f (unchanged c (Err NotEntered))
+  assumption_there : f < length c.formulas → (k : ℕ) → slice_get c.assumptions k ≡ Some f → Assuming c f (unchanged c (Ok k))
+  assumptions_full : f < length c.formulas → Absent c.assumptions f → 16 ≤ length c.assumptions → Assuming c f (unchanged c (Err AssumptionsFull))
   newly_assumed : f < length c.formulas → Absent c.assumptions f → length c.assumptions < 16
       → Assuming c f (record { answer = Ok (length c.assumptions); after = with_assumptions c (c.assumptions ++ f ∷ []) })
 
@@ -66,16 +66,16 @@ line_held c l = record { answer = Ok (length c.lines); after = with_lines c (c.l
 
 -- line: the formula is not entered, or a place is a line's number that is not held; or the line is stated, and 512 are held; or there is room, and it states an assumption by rule 0 or does not, or by another rule the page's verdict on it is one of three
 pub data Lining (c : Case) (page : Page) (l : Line) : Outcome ℕ → Type 0 where
-  formula_not_entered : length c.formulas ≤ l.formula → Lining c page l (says c (Err NotEntered))
-  place_not_held : l.formula < length c.formulas → (k : ℕ) → (l.first ≡ Some k) ⊎ (l.second ≡ Some k) → length c.lines ≤ k → Lining c page l (says c (Err LineNotHeld))
-  lines_full : Stated c l → 512 ≤ length c.lines → Lining c page l (says c (Err LinesFull))
+  formula_not_entered : length c.formulas ≤ l.formula → Lining c page l (unchanged c (Err NotEntered))
+  place_not_held : l.formula < length c.formulas → (k : ℕ) → (l.first ≡ Some k) ⊎ (l.second ≡ Some k) → length c.lines ≤ k → Lining c page l (unchanged c (Err LineNotHeld))
+  lines_full : Stated c l → 512 ≤ length c.lines → Lining c page l (unchanged c (Err LinesFull))
   assumption_line : Stated c l → length c.lines < 512 → StatesAssumption c l → Lining c page l (line_held c l)
-  no_assumption : Stated c l → length c.lines < 512 → l.rule ≡ 0 → (StatesAssumption c l → ⊥) → Lining c page l (says c (Err NotAdmittedRefusal))
+  no_assumption : Stated c l → length c.lines < 512 → l.rule ≡ 0 → (StatesAssumption c l → ⊥) → Lining c page l (unchanged c (Err NotAdmittedRefusal))
   page_admits : (s : Stated c l) → length c.lines < 512 → l.rule ≢ 0 → page.verdict l.rule s.formula s.first s.second ≡ Admitted → Lining c page l (line_held c l)
   page_does_not_admit : (s : Stated c l) → length c.lines < 512 → l.rule ≢ 0 → page.verdict l.rule s.formula s.first s.second ≡ NotAdmitted
-      → Lining c page l (says c (Err NotAdmittedRefusal))
+      → Lining c page l (unchanged c (Err NotAdmittedRefusal))
   page_beyond_limit : (s : Stated c l) → length c.lines < 512 → l.rule ≢ 0 → page.verdict l.rule s.formula s.first s.second ≡ BeyondLimit
-      → Lining c page l (says c (Err BeyondLimitRefusal))
+      → Lining c page l (unchanged c (Err BeyondLimitRefusal))
 
 -- a formula can be judged: it is entered, its run has at most 256 positions and this one among them, and there are words for all rows
 pub record Judgeable (c : Case) (r : Run) (f i : ℕ) (words : ℕ) : Type 0 where
@@ -94,11 +94,11 @@ pub data Unjudgeable (c : Case) (r : Run) (f i : ℕ) (words : ℕ) : Refusal �
 
 -- truth: the formula cannot be judged; or it can, and it holds at the position, or it does not. Here and below, `words` is the scratch before the call, and the list behind the outcome is the scratch afterwards
 pub data Telling (c : Case) (r : Run) (f i : ℕ) (words : List ℕ) : Outcome Bool → List ℕ → Type 0 where
-  not_told : (e : Refusal) → Unjudgeable c r f i (length words) e → Telling c r f i words (says c (Err e)) words
+  not_told : (e : Refusal) → Unjudgeable c r f i (length words) e → Telling c r f i words (unchanged c (Err e)) words
   told_true : Judgeable c r f i (length words) → (A : Formula) → Number c.formulas f A → Holds r A i
-      → Telling c r f i words (says c (Ok true)) (with_rows r c.formulas words)
+      → Telling c r f i words (unchanged c (Ok true)) (with_rows r c.formulas words)
   told_false : Judgeable c r f i (length words) → (A : Formula) → Number c.formulas f A → (Holds r A i → ⊥)
-      → Telling c r f i words (says c (Ok false)) (with_rows r c.formulas words)
+      → Telling c r f i words (unchanged c (Ok false)) (with_rows r c.formulas words)
 
 -- the assumption at place k is the first that does not hold throughout the run, and j is the first position at which it does not hold
 pub record FirstFailure (c : Case) (r : Run) (k j : ℕ) : Type 0 where
@@ -111,13 +111,13 @@ pub record FirstFailure (c : Case) (r : Run) (k j : ℕ) : Type 0 where
 
 -- refute: the formula cannot be judged; or it can, and 64 refutations are held; or there is room, and an assumption fails, or all hold and so does the formula, or the run breaks it
 pub data Refuting (c : Case) (r : Run) (f i : ℕ) (words : List ℕ) : Outcome ℕ → List ℕ → Type 0 where
-  not_judged : (e : Refusal) → Unjudgeable c r f i (length words) e → Refuting c r f i words (says c (Err e)) words
-  refutations_full : Judgeable c r f i (length words) → 64 ≤ length c.refutations → Refuting c r f i words (says c (Err RefutationsFull)) words
+  not_judged : (e : Refusal) → Unjudgeable c r f i (length words) e → Refuting c r f i words (unchanged c (Err e)) words
+  refutations_full : Judgeable c r f i (length words) → 64 ≤ length c.refutations → Refuting c r f i words (unchanged c (Err RefutationsFull)) words
   assumption_fails : Judgeable c r f i (length words) → length c.refutations < 64 → (k j : ℕ) → FirstFailure c r k j
-      → Refuting c r f i words (says c (Err (AssumptionFalse k j))) (with_rows r c.formulas words)
+      → Refuting c r f i words (unchanged c (Err (AssumptionFalse k j))) (with_rows r c.formulas words)
   formula_holds : Judgeable c r f i (length words) → length c.refutations < 64 → Keeps c.formulas c.assumptions r
       → (A : Formula) → Number c.formulas f A → Holds r A i
-      → Refuting c r f i words (says c (Err FormulaTrue)) (with_rows r c.formulas words)
+      → Refuting c r f i words (unchanged c (Err FormulaTrue)) (with_rows r c.formulas words)
   newly_held : Judgeable c r f i (length words) → length c.refutations < 64 → Breaks c.formulas c.assumptions r f i
       → Refuting c r f i words
       (record { answer = Ok (length c.refutations); after = with_refutations c (c.refutations ++ record { formula = f; position = i } ∷ []) })

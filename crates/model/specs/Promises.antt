@@ -10,7 +10,7 @@ use Rattle.calculus.specs.PrimeParts.{prime_parts}
 use Rattle.calculus.specs.Rules.{Gives}
 use Rattle.calculus.specs.Pages.{Page}
 use Rattle.calculus.specs.Published.{published}
-use Rattle.calculus.specs.Derivations.{Step, Derivation}
+use Rattle.calculus.specs.Derivations.{DerivationLine, Derivation}
 use Rattle.formulas.specs.declared.entry.Entry.{Entry}
 use Rattle.formulas.specs.Entries.{kind_of, left_of, right_of}
 use Rattle.truths.specs.Along.{with_rows, row_says}
@@ -27,18 +27,19 @@ use Rattle.model.specs.Outcomes.{Forming, Assuming, Stated, StatesAssumption, Li
 use Rattle.model.specs.Reads.{counts_of, entry_in, assumption_in, line_in, refutation_in, standing_in}
 use Rattle.model.specs.History.{Stage, sealed_stage, Call, History, after_call, Refused, after, Formed, Assumed, HeldLine, HeldRefutation}
 use Rattle.model.specs.Limits.{AssumptionsEntered, LinesEntered, Limits}
-use Rattle.model.specs.Entering.{Publishes, Ready, entered_as, Entering}
+use Rattle.model.specs.Entering.{Publishes, Ready, entered_as, Entering, WithinLimits}
 
--- form and assume do what the relations say, on every case
+-- form does what the relation says, on every case
 abbrev pub FormExact : Type 0
 FormExact = (c : Case) (kind left right : ℕ) → Forming c kind left right (calls.form c kind left right)
 
+-- assume does what the relation says, on every case
 abbrev pub AssumeExact : Type 0
 AssumeExact = (c : Case) (f : ℕ) → Assuming c f (calls.assume c f)
 
 -- line does what the relation says, on every case whose lines have entered formulas, as after all histories
 abbrev pub LineExact : Type 0
-LineExact = (c : Case) → LinesEntered c → (page : Page) (l : Line) → Lining c page l (lines.line c page l)
+LineExact = (c : Case) → LinesEntered c.formulas c.lines → (page : Page) (l : Line) → Lining c page l (lines.line c page l)
 
 -- the calculus gives a line: it states an assumption by rule 0, or its rule gives its formula from those on the lines at its places, a tautology if it has at most twelve prime parts
 pub data CalculusGives (c : Case) (l : Line) : Type 0 where
@@ -47,21 +48,22 @@ pub data CalculusGives (c : Case) (l : Line) : Type 0 where
 
 -- under a page that says of the line's rule what the published page says, a line is held exactly when there is room and the calculus gives it; its number is the next one
 abbrev pub LineHeldExactly : Type 0
-LineHeldExactly = (c : Case) → LinesEntered c → (page : Page) (l : Line) (n : ℕ) → (l.rule ≢ 0 → page.verdict l.rule ≡ published l.rule)
+LineHeldExactly = (c : Case) → LinesEntered c.formulas c.lines → (page : Page) (l : Line) (n : ℕ) → (l.rule ≢ 0 → page.verdict l.rule ≡ published l.rule)
     → ((lines.line c page l).answer ≡ Ok n) ↔ ((n ≡ length c.lines) × (length c.lines < 512) × CalculusGives c l)
 
--- truth does what the relation says on every case, and refute on every case whose assumptions are entered, as after all histories
+-- truth does what the relation says, on every case
 abbrev pub TruthExact : Type 0
 TruthExact = (c : Case) (r : Run) (f i : ℕ) (words : List ℕ)
     → Telling c r f i words (judging.truth c r f i (length words)) (judging.truth_scratch c r f i words)
 
+-- refute does what the relation says, on every case whose assumptions are entered, as after all histories
 abbrev pub RefuteExact : Type 0
-RefuteExact = (c : Case) → AssumptionsEntered c → (r : Run) (f i : ℕ) (words : List ℕ)
+RefuteExact = (c : Case) → AssumptionsEntered c.formulas c.assumptions → (r : Run) (f i : ℕ) (words : List ℕ)
     → Refuting c r f i words (judging.refute c r f i (length words)) (judging.refute_scratch c r f i words)
 
 -- a refutation is held exactly when it can be judged, there is room, and the run keeps the assumptions and breaks the formula; its number is the next one
 abbrev pub RefutationHeldExactly : Type 0
-RefutationHeldExactly = (c : Case) → AssumptionsEntered c → (r : Run) (f i n m : ℕ)
+RefutationHeldExactly = (c : Case) → AssumptionsEntered c.formulas c.assumptions → (r : Run) (f i n m : ℕ)
     → ((judging.refute c r f i n).answer ≡ Ok m)
     ↔ ((m ≡ length c.refutations) × (length c.refutations < 64) × Judgeable c r f i n × Breaks c.formulas c.assumptions r f i)
 
@@ -106,12 +108,19 @@ abbrev pub NeverBoth : Type 0
 NeverBoth = (s : Stage) (h : History s) (n m f i : ℕ) (l : Line) (r : Run) (A : Formula)
     → HeldLine s h n l → Formed s h l.formula A → HeldRefutation s h m f i r → Formed s h f A → ⊥
 
--- entered in order under a page that publishes, with other calls in between, a derivation that a case is ready for is held whole: its next line's formula has a number, and by whichever number it is entered, line n answers n
+-- entered in order, each line under a page with the published verdict on its rule, and with other calls in between, a derivation that a case is ready for is held whole: by whichever number of its formula the next line is entered, line n answers n
 abbrev pub DerivationsHeld : Type 0
 DerivationsHeld = (D : Derivation) (h : History sealed_stage) → Ready D h → (n : ℕ) (g : History sealed_stage) → Entering D h n g
-    → (s : Step) → slice_get D.steps n ≡ Some s
-    → ((f : ℕ) × Formed sealed_stage g f s.formula)
-    × ((f : ℕ) → Formed sealed_stage g f s.formula → (page : Page) → Publishes page → (lines.line (after g) page (entered_as f s)).answer ≡ Ok n)
+    → (s : DerivationLine) → slice_get D.steps n ≡ Some s → (f : ℕ) → Formed sealed_stage g f s.formula
+    → (page : Page) → Publishes page s.rule → (lines.line (after g) page (entered_as f s)).answer ≡ Ok n
+
+-- and a derivation that keeps to the limits of a case can be entered: there is a history that makes a case ready for it, and one behind that which enters all its lines under a given page with the published verdicts on their rules, so that each is held by its number
+abbrev pub DerivationsCanBeEntered : Type 0
+DerivationsCanBeEntered = (D : Derivation) (fs : List Formula) → WithinLimits D fs
+    → (page : Page) → ((n : ℕ) (s : DerivationLine) → slice_get D.steps n ≡ Some s → Publishes page s.rule)
+    → (h : History sealed_stage) × Ready D h
+    × (g : History sealed_stage) × Entering D h (length D.steps) g
+    × ((n : ℕ) (s : DerivationLine) → slice_get D.steps n ≡ Some s → (f : ℕ) × Formed sealed_stage g f s.formula × HeldLine sealed_stage g n (entered_as f s))
 
 -- after every history, the refutations are those that refute answered a number for, by these numbers, and reading any other is refused
 abbrev pub RefutationsHeld : Type 0
@@ -119,9 +128,10 @@ RefutationsHeld = (s : Stage) (h : History s) (n : ℕ)
     → ((f i : ℕ) → (refutation_in (after h) n ≡ Ok (record { formula = f; position = i })) ↔ ((r : Run) × HeldRefutation s h n f i r))
     × ((refutation_in (after h) n ≡ Err RefutationNotHeld) ↔ ((f i : ℕ) (r : Run) → HeldRefutation s h n f i r → ⊥))
 
--- and the run that a refutation was held with keeps the assumptions and breaks the formula at the position
+-- and the run that a refutation was held with keeps the assumptions, and makes the formula false at the position
 abbrev pub RefutationsHaveRuns : Type 0
-RefutationsHaveRuns = (s : Stage) (h : History s) (n f i : ℕ) (r : Run) → HeldRefutation s h n f i r → Breaks (after h).formulas (after h).assumptions r f i
+RefutationsHaveRuns = (s : Stage) (h : History s) (n f i : ℕ) (r : Run) → HeldRefutation s h n f i r
+    → KeepsAssumptions s h r × ((A : Formula) × Formed s h f A) × ((A : Formula) → Formed s h f A → Holds r A i → ⊥)
 
 -- the counts are above just those numbers and places
 abbrev pub CountsTell : Type 0
@@ -146,6 +156,7 @@ pub data Stands (s : Stage) (h : History s) (f : ℕ) : Result Standing Refusal 
   still_open : (A : Formula) → Formed s h f A → ((m : ℕ) (k : Line) → HeldLine s h m k → k.formula ≢ f)
       → ((m j : ℕ) (q : Run) → HeldRefutation s h m f j q → ⊥) → Stands s h f (Ok Open)
 
+-- after every history, standing tells how a formula stands
 abbrev pub StandingTells : Type 0
 StandingTells = (s : Stage) (h : History s) (f : ℕ) → Stands s h f (standing_in (after h) f)
 
@@ -158,6 +169,7 @@ EntriesTell = (s : Stage) (h : History s) (n : ℕ) (e : Entry)
 abbrev pub LimitsKept : Type 0
 LimitsKept = (s : Stage) (h : History s) → Limits (after h)
 
+-- all of these
 pub record Promises : Type 0 where
   pub form_exact : FormExact
   pub assume_exact : AssumeExact
@@ -175,6 +187,7 @@ pub record Promises : Type 0 where
   pub held_lines_true : HeldLinesTrue
   pub never_both : NeverBoth
   pub derivations_held : DerivationsHeld
+  pub derivations_can_be_entered : DerivationsCanBeEntered
   pub refutations_held : RefutationsHeld
   pub refutations_have_runs : RefutationsHaveRuns
   pub counts_tell : CountsTell

@@ -16,6 +16,7 @@ use Rattle.model.specs.declared.standing.Standing.{Standing}
 use Rattle.model.specs.declared.standing.Standing.TheVariants.{Derived, Refuted, Open}
 use Rattle.model.specs.Case.{Case}
 
+-- how many of each there are
 abbrev pub counts_of : Case → Counts
 counts_of c = record {
   formulas = length c.formulas;
@@ -58,6 +59,7 @@ standing_by (Some n) refuted = Derived n
 standing_by None (Some n) = Refuted n
 standing_by None None = Open
 
+-- the number of the first line of a formula, and of its first refutation, if there is one
 abbrev pub first_line : Case → ℕ → Option ℕ
 first_line c f = position (λ l. nat_eq l.formula f) c.lines
 

@@ -1,5 +1,5 @@
 // What is read of a case.
-use crate::case::Case;
+use crate::case::{ASSUMPTIONS, Case};
 use crate::stage::{LINES, REFUTATIONS, Stage};
 use formulas::Entry;
 use model::{Counts, Line, Refutation, Standing};
@@ -14,7 +14,10 @@ impl<S: Stage> Case<S> {
     #[tactic(auto, using(formulas::proofs::Decoded::decoded_length), unfolding(crate::specs::Model::modelled))]
     pub fn counts(&self) -> Counts
         ensures value { result ≡ counts_of (modelled self.now) }
-        ensures few { result.formulas ≤ 1024 }
+        ensures few_formulas { result.formulas ≤ 1024 }
+        ensures few_assumptions { result.assumptions ≤ ASSUMPTIONS }
+        ensures few_lines { result.lines ≤ LINES }
+        ensures few_refutations { result.refutations ≤ REFUTATIONS }
     {
         Counts {
             formulas: self.formulas.len(),
@@ -34,10 +37,10 @@ impl<S: Stage> Case<S> {
 
     // The number of the formula that is assumed at a place.
     #[tactic(auto, unfolding(crate::specs::Model::modelled))]
-    pub fn assumption(&self, number: u16) -> Option<u16>
-        ensures { result ≡ assumption_in (modelled self.now) number }
+    pub fn assumption(&self, place: u16) -> Option<u16>
+        ensures { result ≡ assumption_in (modelled self.now) place }
     {
-        self.assumptions.get(number)
+        self.assumptions.get(place)
     }
 
     // The line with a number.

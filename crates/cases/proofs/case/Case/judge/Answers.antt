@@ -5,7 +5,7 @@ use Rattle.truths.specs.Along.{with_rows, row_says}
 use Rattle.truths.specs.Searching.{first_failing}
 use Rattle.truths.proofs.Failing.{found_below}
 use Rattle.model.specs.Case.{Case}
-use Rattle.model.specs.Judging.{true_at, verdict}
+use Rattle.model.specs.Judging.{true_at, judged_by}
 use Rattle.model.specs.Outcomes.{Judgeable}
 use Rattle.model.proofs.Scratch.{judgeable, rows_written, row_tells, search_tells}
 use Rattle.cases.specs.Model.{modelled}
@@ -59,7 +59,7 @@ pub returns-in-Some : goal.returns-in-Some
 returns-in-Some g c =
     let w = (goal.at.returns-in-Some g c).After-first_false in
     record {
-      answer = ap (λ (o : Option (ℕ × ℕ)). verdict o (true_at (model g w) (run g w) c.args.formula c.args.position)) (sym c.in-Some.is ∙ found g w);
+      answer = ap (λ (o : Option (ℕ × ℕ)). judged_by o (true_at (model g w) (run g w) c.args.formula c.args.position)) (sym c.in-Some.is ∙ found g w);
       words = written g w;
     }
 
@@ -67,7 +67,7 @@ pub returns-then-truth_at : goal.returns-then-truth_at
 returns-then-truth_at g c =
     let w = (goal.at.returns-then-truth_at g c).After-first_false in
     record {
-      answer = ap₂ verdict (sym c.in_default.is ∙ found g w) (told g w true c.from.result c.if-truth_at.ensures (omega arith));
+      answer = ap₂ judged_by (sym c.in_default.is ∙ found g w) (told g w true c.from.result c.if-truth_at.ensures (omega arith));
       words = written g w;
     }
 
@@ -75,6 +75,6 @@ pub returns : goal.returns
 returns g c =
     let w = (goal.at.returns g c).After-first_false in
     record {
-      answer = ap₂ verdict (sym c.in_default.is ∙ found g w) (told g w false c.from.result c.if-truth_at.ensures (omega arith));
+      answer = ap₂ judged_by (sym c.in_default.is ∙ found g w) (told g w false c.from.result c.if-truth_at.ensures (omega arith));
       words = written g w;
     }

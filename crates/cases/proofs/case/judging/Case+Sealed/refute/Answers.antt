@@ -1,5 +1,5 @@
 -- `refute` meets its contract, and what it holds has a run.
-use Rattle.std.proofs.Common.{◌≡◌, ℕ, ◌≤◌, length, Ok, sym, refl, ap, ◌∙◌, subst}
+use Rattle.std.proofs.Common.{◌≤◌, length, Ok, sym, refl, ap, ◌∙◌, subst}
 use Rattle.std.specs.Option.{ok_or}
 use Rattle.std.proofs.lemmas.Bool.{leb-true, leb-false}
 use Rattle.std.proofs.lemmas.Result.{err_from_is_err_and}
@@ -9,19 +9,13 @@ use Rattle.formulas.proofs.Added.{number_new, after_new}
 use Rattle.formulas.proofs.Members.{every_push}
 use Rattle.model.specs.declared.refutation.Refutation.{Refutation}
 use Rattle.model.specs.Breaking.{Breaks, HaveRuns}
-use Rattle.model.specs.Calls.{Outcome}
 use Rattle.model.specs.Judging.{with_refutations, refute, refute_scratch}
 use Rattle.model.proofs.RefuteChanges.{judged_breaks}
 use Rattle.model.proofs.RefuteComesTo.{refute_full, scratch_full, refute_judged, scratch_judged}
 use Rattle.model.proofs.Scratch.{judgeable}
 use Rattle.cases.specs.Model.{modelled}
+use Rattle.cases.proofs.Outcomes.{answer_of, after_of}
 use Rattle.cases.proofs.case.judging.Case+Sealed.refute.Goals as goal
-
-answer_of : {o p : Outcome ℕ} → o ≡ p → p.answer ≡ o.answer
-answer_of e = sym (ap (λ x. x.answer) e)
-
-after_of : {o p : Outcome ℕ} → o ≡ p → p.after ≡ o.after
-after_of e = sym (ap (λ x. x.after) e)
 
 pub returns-in_err-check : goal.returns-in_err-check
 unfolding refute refute_scratch modelled

@@ -1,6 +1,5 @@
 -- `line` meets its contract: a line that is admitted is held, and its formula follows from the assumptions.
-use Rattle.std.proofs.Common.{◌≡◌, ℕ, ◌<◌, List, length, Some, Err, sym, ap, ◌∙◌, subst}
-use Rattle.std.specs.List.{slice_get}
+use Rattle.std.proofs.Common.{◌<◌, length, Err, sym, ap, ◌∙◌, subst}
 use Rattle.std.specs.Option.{ok_or}
 use Rattle.std.proofs.lemmas.Bool.{leb-true, leb-false}
 use Rattle.std.proofs.lemmas.Result.{err_from_is_err_and}
@@ -10,18 +9,13 @@ use Rattle.formulas.proofs.Members.{every_push}
 use Rattle.calculus.specs.declared.verdict.Verdict.TheVariants.{Admitted, NotAdmitted, BeyondLimit}
 use Rattle.model.specs.declared.line.Line.{Line}
 use Rattle.model.specs.Breaking.{LinesFollow}
-use Rattle.model.specs.Calls.{Outcome}
 use Rattle.model.specs.Lines.{with_lines}
+use Rattle.model.specs.Limits.{LinesEntered}
 use Rattle.model.proofs.Following.{lines_follow_push}
 use Rattle.cases.specs.Model.{modelled}
+use Rattle.cases.proofs.Outcomes.{answer_of, after_of}
 use Rattle.cases.proofs.Asking.{question_refused, asked_full, asked_judged, asked_allowed}
 use Rattle.cases.proofs.case.lines.Case+Sealed.line.Goals as goal
-
-answer_of : {o p : Outcome ℕ} → o ≡ p → p.answer ≡ o.answer
-answer_of e = sym (ap (λ x. x.answer) e)
-
-after_of : {o p : Outcome ℕ} → o ≡ p → p.after ≡ o.after
-after_of e = sym (ap (λ x. x.after) e)
 
 pub returns-in_err-question : goal.returns-in_err-question
 unfolding modelled
@@ -55,7 +49,7 @@ invariant_of-self g c =
       within = s.within;
       distinct = s.distinct;
       entered = s.entered;
-      stated = subst (λ (ls : List Line). (n : ℕ) (k : Line) → slice_get ls n ≡ Some k → k.formula < length m.formulas) pushed
+      stated = subst (LinesEntered m.formulas) pushed
           (every_push (λ (k : Line). k.formula < length m.formulas) m.lines l s.stated can.entered);
       follow = subst (LinesFollow m.formulas m.assumptions) pushed (lines_follow_push m s.entered page l can s.follow);
       have_runs = s.have_runs;

@@ -5,10 +5,10 @@ use Rattle.std.proofs.lemmas.Bool.{cond-true, cond-false, lt-ltb, le-ltb}
 use Rattle.refusals.specs.declared.Refusal.TheVariants.{NotEntered, AssumptionsFull}
 use Rattle.formulas.specs.Adding.{place, add_answer, add_after}
 use Rattle.model.specs.Case.{Case}
-use Rattle.model.specs.Calls.{says, with_assumptions, assume}
+use Rattle.model.specs.Calls.{unchanged, with_assumptions, assume}
 
 module _ (c : Case) (f : ℕ) where
-  pub assume_unknown : length c.formulas ≤ f → assume c f ≡ says c (Err NotEntered)
+  pub assume_unknown : length c.formulas ≤ f → assume c f ≡ unchanged c (Err NotEntered)
   unfolding assume
   assume_unknown past = cond-false (Dec.ltb f (length c.formulas)) _ _ (le-ltb f (length c.formulas) past)
 
