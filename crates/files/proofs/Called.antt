@@ -1,8 +1,8 @@
 -- What a reading comes to at a record's call.
 use Rattle.std.proofs.Common.{ℕ, Ok, Err, Result}
 use Rattle.refusals.specs.declared.Refusal.{Refusal}
-use Rattle.files.specs.declared.fault.Cause.{Cause}
-use Rattle.files.specs.declared.fault.Cause.TheVariants.{Case}
+use Rattle.records.specs.declared.fault.Cause.{Cause}
+use Rattle.records.specs.declared.fault.Cause.TheVariants.{Case}
 use Rattle.files.specs.Reading.{called}
 
 -- what holds where the reading ends and where it goes on holds

@@ -1,8 +1,7 @@
-pub mod Cutting
-pub mod Left
-pub mod ReadBack
 pub mod Called
+pub mod Left
 pub mod Scratch
 pub mod CallsMade
 pub mod LastRows
-pub mod Extents
+pub mod Within
+pub mod FileReads

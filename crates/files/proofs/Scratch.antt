@@ -4,23 +4,23 @@ use Rattle.std.proofs.lemmas.Bool.{cond_both}
 use Rattle.calculus.specs.Pages.{Page}
 use Rattle.model.specs.Case as cases
 use Rattle.model.proofs.Scratch.{refute_scratch_length}
-use Rattle.files.specs.declared.fault.PayloadFault.{PayloadFault}
-use Rattle.files.specs.Records.{Records, none, bad, more, records}
-use Rattle.files.specs.Payloads.{Request, form_request, line_request, refute_request, record_of_body}
-use Rattle.files.specs.Reading.{BodyReading, body_stopped, asked, body_step, body_from, body}
+use Rattle.records.specs.declared.fault.PayloadFault.{PayloadFault}
+use Rattle.records.specs.Records.{Records, none, bad, more, records}
+use Rattle.records.specs.Payloads.{Request, form_request, line_request, refute_request, record_of_body}
+use Rattle.files.specs.Reading.{BodyReading, body_stopped, request_made, body_step, body_from, body}
 use Rattle.files.specs.CallsMade.{BodyKeepsScratchLength}
 use Rattle.files.proofs.Called.{called_both}
 
-pub asked_length : (page : Page) (c : cases.Case) (words : List ℕ) (x : Request) → length (asked page c words x).scratch ≡ length words
-asked_length page c words (form_request f) = refl
-asked_length page c words (line_request l) = refl
-asked_length page c words (refute_request claim r) = refute_scratch_length c r claim.formula claim.position words
+pub request_length : (page : Page) (c : cases.Case) (words : List ℕ) (x : Request) → length (request_made page c words x).scratch ≡ length words
+request_length page c words (form_request f) = refl
+request_length page c words (line_request l) = refl
+request_length page c words (refute_request claim r) = refute_scratch_length c r claim.formula claim.position words
 
 step_length : (page : Page) (c : cases.Case) (words : List ℕ) (at : ℕ) (r : Result Request PayloadFault) (go : cases.Case → List ℕ → BodyReading)
     → ((d : cases.Case) (left : List ℕ) → length (go d left).scratch ≡ length left) → length (body_step page c words at r go).scratch ≡ length words
 step_length page c words at (Ok x) go rest =
-    let o = asked page c words x in
-    let same = asked_length page c words x in
+    let o = request_made page c words x in
+    let same = request_length page c words x in
     called_both at (body_stopped o.after o.scratch) (go o.after o.scratch) (λ (r : BodyReading). length r.scratch ≡ length words) o.answer (λ _. same)
     (rest o.after o.scratch ∙ same)
 step_length page c words at (Err e) go rest = refl

@@ -1,41 +1,38 @@
 -- The calls that a file's records ask for, and that reading makes them.
-use Rattle.std.specs.Prelude.{◌≡◌, ℕ, ◌≤◌, List, [], ◌∷◌, length, drop, Ok, Err, Option, Result}
+use Rattle.std.specs.Prelude.{◌≡◌, ℕ, ◌≤◌, List, [], ◌∷◌, length, drop, Some, None, Ok, Err, Option, Result}
 use Rattle.logic.specs.Formula.{Formula}
 use Rattle.logic.specs.Run.{Run}
 use Rattle.calculus.specs.Pages.{Page}
 use Rattle.model.specs.Case as cases
-use Rattle.model.specs.History.{open_stage, sealed_stage, Call, form, assume, line, refute, Leads}
+use Rattle.model.specs.History.{open_stage, sealed_stage, Call, Leads}
 use Rattle.model.specs.LastRows.{LastRows, with_last}
-use Rattle.files.specs.declared.fault.PayloadFault.{PayloadFault}
-use Rattle.files.specs.declared.payload.FrontRecord.{FrontRecord}
-use Rattle.files.specs.declared.payload.FrontRecord.TheVariants.{FormRecord, AssumeRecord, SealRecord}
-use Rattle.files.specs.Records.{Records, none, bad, more, records}
-use Rattle.files.specs.Payloads.{record_of_front, Request, form_request, line_request, refute_request, record_of_body}
+use Rattle.records.specs.declared.fault.PayloadFault.{PayloadFault}
+use Rattle.records.specs.Records.{Records, none, bad, more, records}
+use Rattle.records.specs.Payloads.{record_of_front, record_of_body}
+use Rattle.records.specs.Asking.{front_asked, body_asked}
 use Rattle.files.specs.Reading.{front, body}
 
--- a record of the front, and the calls behind it: the seal and a record that is not allowed end them
-abbrev pub front_call : Result FrontRecord PayloadFault → List (Call open_stage) → List (Call open_stage)
-front_call (Ok (FormRecord f)) xs = form f.kind f.left f.right ∷ xs
-front_call (Ok (AssumeRecord f)) xs = assume f ∷ xs
-front_call (Ok SealRecord) xs = []
+-- the call that a record of the front asks for, and the calls behind it: the seal and a record that is not allowed end them
+abbrev pub front_call : Result (Option (Call open_stage)) PayloadFault → List (Call open_stage) → List (Call open_stage)
+front_call (Ok (Some x)) xs = x ∷ xs
+front_call (Ok None) xs = []
 front_call (Err e) xs = []
 
 abbrev pub front_calls : Records → List (Call open_stage)
 front_calls none = []
 front_calls (bad e) = []
-front_calls (more kind payload rest) = front_call (record_of_front kind payload) (front_calls rest)
+front_calls (more kind payload rest) = front_call (front_asked (record_of_front kind payload)) (front_calls rest)
 
--- a record of the body, and the calls behind it, by the page of rules and the number of scratch words, which are the same for all
-abbrev pub body_call : Page → ℕ → Result Request PayloadFault → List (Call sealed_stage) → List (Call sealed_stage)
-body_call page n (Ok (form_request f)) xs = form f.kind f.left f.right ∷ xs
-body_call page n (Ok (line_request l)) xs = line page l ∷ xs
-body_call page n (Ok (refute_request claim r)) xs = refute r claim.formula claim.position n ∷ xs
-body_call page n (Err e) xs = []
+-- the same for a record of the body
+abbrev pub body_call : Result (Call sealed_stage) PayloadFault → List (Call sealed_stage) → List (Call sealed_stage)
+body_call (Ok x) xs = x ∷ xs
+body_call (Err e) xs = []
 
+-- by the page of rules and the number of scratch words, which are the same for all
 abbrev pub body_calls : Page → ℕ → Records → List (Call sealed_stage)
 body_calls page n none = []
 body_calls page n (bad e) = []
-body_calls page n (more kind payload rest) = body_call page n (record_of_body kind payload) (body_calls page n rest)
+body_calls page n (more kind payload rest) = body_call (body_asked page n (record_of_body kind payload)) (body_calls page n rest)
 
 -- reading the front is making its records' calls in their order, up to the first that is refused
 abbrev pub FrontMakesCalls : Type 0

@@ -1,8 +1,3 @@
-pub mod Faults
-pub mod Records
-pub mod Contents
-pub mod Payloads
-pub mod Requests
 pub mod Reading
-pub mod WrittenRecords
 pub mod CallsMade
+pub mod FileReads

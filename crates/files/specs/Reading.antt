@@ -6,15 +6,15 @@ use Rattle.model.specs.Case as cases
 use Rattle.model.specs.Calls.{Outcome, form, assume}
 use Rattle.model.specs.Lines.{line}
 use Rattle.model.specs.Judging.{refute, refute_scratch}
-use Rattle.files.specs.declared.fault.RecordFault.TheVariants.{ShortHead, NoSeal}
-use Rattle.files.specs.declared.fault.PayloadFault.{PayloadFault}
-use Rattle.files.specs.declared.fault.Cause.{Cause}
-use Rattle.files.specs.declared.fault.Cause.TheVariants.{Record, Payload, Case}
-use Rattle.files.specs.declared.fault.Fault.{Fault}
-use Rattle.files.specs.declared.payload.FrontRecord.{FrontRecord}
-use Rattle.files.specs.declared.payload.FrontRecord.TheVariants.{FormRecord, AssumeRecord, SealRecord}
-use Rattle.files.specs.Records.{Records, none, bad, more, records}
-use Rattle.files.specs.Payloads.{record_of_front, Request, form_request, line_request, refute_request, record_of_body}
+use Rattle.records.specs.declared.fault.RecordFault.TheVariants.{ShortHead, NoSeal}
+use Rattle.records.specs.declared.fault.PayloadFault.{PayloadFault}
+use Rattle.records.specs.declared.fault.Cause.{Cause}
+use Rattle.records.specs.declared.fault.Cause.TheVariants.{Record, Payload, Case}
+use Rattle.records.specs.declared.fault.Fault.{Fault}
+use Rattle.records.specs.declared.front_record.FrontRecord.{FrontRecord}
+use Rattle.records.specs.declared.front_record.FrontRecord.TheVariants.{FormRecord, AssumeRecord, SealRecord}
+use Rattle.records.specs.Records.{Records, none, bad, more, records}
+use Rattle.records.specs.Payloads.{record_of_front, Request, form_request, line_request, refute_request, record_of_body}
 
 -- what a record's call answered: a refusal ends the reading with a cause at the record's offset, else it goes on
 abbrev pub called : {R : Type 0} → ℕ → Result ℕ Refusal → (Cause → ℕ → R) → R → R
@@ -54,19 +54,19 @@ unfoldable pub front : cases.Case → List ℕ → Reading
 front c bytes = front_from c 0 (records bytes)
 
 -- a request's call, a line's under a page: its answer, and the case and the scratch words afterwards
-pub record Asked : Type 0 where
+pub record RequestOutcome : Type 0 where
   pub answer : Result ℕ Refusal
   pub after : cases.Case
   pub scratch : List ℕ
 
-abbrev pub asked : Page → cases.Case → List ℕ → Request → Asked
-asked page c words (form_request f) =
+abbrev pub request_made : Page → cases.Case → List ℕ → Request → RequestOutcome
+request_made page c words (form_request f) =
     let o : Outcome ℕ = form c f.kind f.left f.right in
     record { answer = o.answer; after = o.after; scratch = words }
-asked page c words (line_request l) =
+request_made page c words (line_request l) =
     let o : Outcome ℕ = line c page l in
     record { answer = o.answer; after = o.after; scratch = words }
-asked page c words (refute_request claim r) =
+request_made page c words (refute_request claim r) =
     let o : Outcome ℕ = refute c r claim.formula claim.position (length words) in
     record { answer = o.answer; after = o.after; scratch = refute_scratch c r claim.formula claim.position words }
 
@@ -81,13 +81,13 @@ abbrev pub body_stopped : cases.Case → List ℕ → Cause → ℕ → BodyRead
 body_stopped c words e at = record { answer = Err (record { cause = e; offset = at }); after = c; scratch = words }
 
 -- a call of the body, and what is read behind it
-abbrev pub body_called : ℕ → Asked → (cases.Case → List ℕ → BodyReading) → BodyReading
+abbrev pub body_called : ℕ → RequestOutcome → (cases.Case → List ℕ → BodyReading) → BodyReading
 body_called at x go = called at x.answer (body_stopped x.after x.scratch) (go x.after x.scratch)
 
 -- one record of the body
 abbrev pub body_step : Page → cases.Case → List ℕ → ℕ → Result Request PayloadFault → (cases.Case → List ℕ → BodyReading) → BodyReading
 body_step page c words at (Err e) go = body_stopped c words (Payload e) at
-body_step page c words at (Ok x) go = body_called at (asked page c words x) go
+body_step page c words at (Ok x) go = body_called at (request_made page c words x) go
 
 -- the body: up to the end of the file
 abbrev pub body_from : Page → cases.Case → List ℕ → ℕ → Records → BodyReading

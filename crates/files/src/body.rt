@@ -1,13 +1,11 @@
 // Reads the body of a file: what a sealed case is told.
 ghost use Rattle.std.specs.Prelude.{◌≡◌};
 ghost use Rattle.cases.specs.Model.{sealed};
-ghost use Rattle.files.specs.Reading.{asked, body};
-ghost use Rattle.files.specs.Requests.{request_of};
+ghost use Rattle.files.specs.Reading.{body, request_made};
+ghost use Rattle.records.specs.Requests.{request_of};
 
-use crate::fault::{Fault, at};
-use crate::payload::BodyRecord;
-use crate::record::Records;
 use cases::SealedCase;
+use records::{BodyRecord, Fault, Records, at};
 use refusals::Refusal;
 use rules::RulePage;
 
@@ -40,9 +38,9 @@ fn make_call<P: RulePage>(
     request: BodyRecord<'_>,
     scratch: &mut [u64],
 ) -> Result<u16, Refusal>
-    ensures answer { result ≡ (asked (P.RulePage.meaning page.now) (sealed case.old) scratch.old (request_of request.entry)).answer }
-    ensures after { sealed case.new ≡ (asked (P.RulePage.meaning page.now) (sealed case.old) scratch.old (request_of request.entry)).after }
-    ensures words { scratch.new ≡ (asked (P.RulePage.meaning page.now) (sealed case.old) scratch.old (request_of request.entry)).scratch }
+    ensures answer { result ≡ (request_made (P.RulePage.meaning page.now) (sealed case.old) scratch.old (request_of request.entry)).answer }
+    ensures after { sealed case.new ≡ (request_made (P.RulePage.meaning page.now) (sealed case.old) scratch.old (request_of request.entry)).after }
+    ensures words { scratch.new ≡ (request_made (P.RulePage.meaning page.now) (sealed case.old) scratch.old (request_of request.entry)).scratch }
 {
     match request {
         BodyRecord::FormRecord(form) => case.form(form.kind, form.left, form.right),

@@ -3,10 +3,8 @@ ghost use Rattle.std.specs.Prelude.{◌≡◌};
 ghost use Rattle.cases.specs.Model.{opened};
 ghost use Rattle.files.specs.Reading.{front};
 
-use crate::fault::{ErrorAt, Fault, RecordFault, at};
-use crate::payload::FrontRecord;
-use crate::record::Records;
 use cases::OpenCase;
+use records::{ErrorAt, Fault, FrontRecord, RecordFault, Records, at};
 
 // Makes the calls that the records ask for, up to the seal record, and answers the offset behind it.
 #[tactic(auto, using(crate::proofs::Left::front_left))]

@@ -1,12 +1,10 @@
-// Case files: records, and the calls that they make on a case.
+// Reads case files: makes the calls that the records of a file ask for.
 #![tactic(auto)]
 
 mod body;
-mod fault;
 mod front;
-mod payload;
-mod record;
 
 pub use body::read_body;
-pub use fault::{Cause, ErrorAt, Fault, PayloadFault, RecordFault};
 pub use front::read_front;
+// what reading answers where it ends early
+pub use records::{Cause, Fault, PayloadFault, RecordFault};

@@ -1,12 +1,12 @@
 -- What is left of the body gives what the whole body gives.
 use Rattle.std.proofs.Common.{◌≡◌}
 use Rattle.cases.specs.Model.{sealed}
-use Rattle.files.specs.Contents.{left}
+use Rattle.records.specs.Contents.{records_left}
 use Rattle.files.specs.Reading.{body, body_from}
 use Rattle.files.proofs.body.read_body.Given as goal
 
 abbrev pub invariant-loop-record : goal.invariant-loop-record
 invariant-loop-record g l = record {
   file : l.record-iterator.file.now ≡ l.file;
-  rest : body (g.P.RulePage.meaning l.page) (sealed l.initial.case) l.start l.initial.scratch l.file ≡ body_from (g.P.RulePage.meaning l.page) (sealed l.case) l.scratch l.record-iterator.offset (left l.record-iterator);
+  rest : body (g.P.RulePage.meaning l.page) (sealed l.initial.case) l.start l.initial.scratch l.file ≡ body_from (g.P.RulePage.meaning l.page) (sealed l.case) l.scratch l.record-iterator.offset (records_left l.record-iterator);
 }

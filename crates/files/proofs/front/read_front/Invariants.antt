@@ -1,12 +1,12 @@
 -- What is left of the front gives what the whole front gives.
 use Rattle.std.proofs.Common.{◌≡◌}
 use Rattle.cases.specs.Model.{opened}
-use Rattle.files.specs.Contents.{left}
+use Rattle.records.specs.Contents.{records_left}
 use Rattle.files.specs.Reading.{front, front_from}
 use Rattle.files.proofs.front.read_front.Given as goal
 
 abbrev pub invariant-loop-record : goal.invariant-loop-record
 invariant-loop-record l = record {
   file : l.record-iterator.file.now ≡ l.file;
-  rest : front (opened l.initial.case) l.file ≡ front_from (opened l.case) l.record-iterator.offset (left l.record-iterator);
+  rest : front (opened l.initial.case) l.file ≡ front_from (opened l.case) l.record-iterator.offset (records_left l.record-iterator);
 }

@@ -1,0 +1,7 @@
+pub mod Cutting
+pub mod Left
+pub mod Extents
+pub mod ReadBack
+pub mod TwoBytes
+pub mod Asking
+pub mod Found
