@@ -1,3 +1,5 @@
 pub mod Growing
+pub mod Reading
 pub mod Room
 pub mod Spelling
+pub mod Telling

@@ -1,4 +1,4 @@
--- A listing of a case within its limits has at most 20,480 bytes.
+-- A listing of a case that has no more of each than a case takes has at most 20,480 bytes.
 use Rattle.std.proofs.Common.{◌≡◌, ℕ, zero, suc, ◌*◌, ◌^◌, ◌<◌, ◌≤◌, Bool, List, [], ◌∷◌, length, ltb, Some, None, Ok, Err, Option, Result, refl, arith, length-append}
 use Rattle.std.specs.List.{position}
 use Rattle.std.proofs.lemmas.Bool.{cond_both, ltb-true}
@@ -7,18 +7,18 @@ use Rattle.refusals.specs.declared.Refusal.TheVariants.{NotEntered}
 use Rattle.model.specs.Case.{Case}
 use Rattle.model.specs.Reads.{counts_of, standing_by, first_line, first_refutation_of, standing_in}
 use Rattle.model.specs.declared.counts.Counts.{Counts}
-use Rattle.files.specs.Faults.{layer_of, cause_number}
-use Rattle.files.specs.declared.fault.Cause.{Cause}
+use Rattle.records.specs.Faults.{layer_of, cause_number}
+use Rattle.records.specs.declared.fault.Cause.{Cause}
 use Rattle.listing.specs.declared.unread.Unread.{Unread}
 use Rattle.listing.specs.declared.unread.Unread.TheVariants.{TooLong, Refused}
 use Rattle.listing.specs.Listing.{line_of_counts, line_of_standing, standing_lines_to, line_of_ending}
 use Rattle.listing.specs.Room.{Fits64, AlwaysRoom}
 use Rattle.listing.proofs.Spelling.{decimal_short, digits_four}
 
-layer_small : (e : Cause) → layer_of e < 2 ^ 64
+pub layer_small : (e : Cause) → layer_of e < 2 ^ 64
 layer_small e = grind arith
 
-number_small : (e : Cause) → cause_number e < 2 ^ 64
+pub number_small : (e : Cause) → cause_number e < 2 ^ 64
 number_small e = grind arith
 
 counts_short : (n : Counts) → n.formulas < 2 ^ 64 → n.assumptions < 2 ^ 64 → n.lines < 2 ^ 64 → n.refutations < 2 ^ 64
@@ -42,7 +42,7 @@ ending_short (Err (Refused f)) fits =
 ending_short (Err TooLong) fits = omega arith
 
 -- the place that is found is in the list
-found_below : {X : Type 0} (p : X → Bool) (xs : List X) (k : ℕ) → position p xs ≡ Some k → k < length xs
+pub found_below : {X : Type 0} (p : X → Bool) (xs : List X) (k : ℕ) → position p xs ≡ Some k → k < length xs
 found_below p [] k found = cc
 found_below p (x ∷ xs) k found = (position-Some p (x ∷ xs) k x found).0
 
@@ -82,7 +82,7 @@ module _ (c : Case) (formulas : length c.formulas ≤ 10 ^ 4) (lines : length c.
       simp length-append (omega arith)
 
 pub always_room : AlwaysRoom 20480
-always_room c e within fits =
+always_room c e formulas assumptions lines refutations fits =
     let first = counts_short (counts_of c) (omega arith) (omega arith) (omega arith) (omega arith) in
     let standings = standings_short c (omega arith) (omega arith) (omega arith) (length c.formulas) in
     let last = ending_short e fits in

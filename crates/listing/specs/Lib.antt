@@ -1,3 +1,4 @@
 pub mod Listing
 pub mod Room
+pub mod Telling
 pub mod Written

@@ -6,7 +6,7 @@ use Rattle.model.specs.Reads.{counts_of, standing_in}
 use Rattle.model.specs.declared.counts.Counts.{Counts}
 use Rattle.model.specs.declared.standing.Standing.{Standing}
 use Rattle.model.specs.declared.standing.Standing.TheVariants.{Derived, Refuted, Open}
-use Rattle.files.specs.Faults.{layer_of, cause_number}
+use Rattle.records.specs.Faults.{layer_of, cause_number}
 use Rattle.listing.specs.declared.unread.Unread.{Unread}
 use Rattle.listing.specs.declared.unread.Unread.TheVariants.{TooLong, Refused}
 

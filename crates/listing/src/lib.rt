@@ -1,10 +1,10 @@
 // The listing of a case: its counts, how its formulas stand, and how the reading of its file ended.
 #![tactic(auto)]
 
-mod line;
 mod lines;
 mod refusal;
 mod standings;
+mod text;
 mod unread;
 mod writing;
 

@@ -3,17 +3,18 @@ ghost use Rattle.std.specs.Prelude.{◌≡◌, ◌+◌, ◌≤◌, ◌++◌, len
 ghost use Rattle.model.specs.Reads.{standing_in};
 ghost use Rattle.cases.specs.Model.{sealed};
 ghost use Rattle.listing.specs.Listing.{line, line_of_counts, line_of_standing, line_of_ending};
+ghost use Rattle.listing.specs.declared.text.TheConstants.{TEXT_MOST, DIGITS_MOST};
 
-use crate::line::Line;
+use crate::text::Text;
 use crate::unread::Unread;
 use cases::{Counts, SealedCase, Standing};
 
 // How many of each a case has.
 #[tactic(auto, unfolding(crate::specs::Listing::line_of_counts))]
-pub(crate) fn counts_line(counts: Counts) -> Line
+pub(crate) fn counts_line(counts: Counts) -> Text
     ensures { result ≡ line_of_counts counts }
 {
-    let mut line = Line::new();
+    let mut line = Text::new();
     line.add_field(b"formulas ", counts.formulas);
     line.add_field(b" assumptions ", counts.assumptions);
     line.add_field(b" lines ", counts.lines);
@@ -24,33 +25,34 @@ pub(crate) fn counts_line(counts: Counts) -> Line
 
 // The line of the formula with a number: an empty one if it is open, or not entered.
 #[tactic(auto, unfolding(crate::specs::Listing::line_of_standing))]
-pub(crate) fn formula_line(case: &SealedCase, number: u16) -> Line
+pub(crate) fn formula_line(case: &SealedCase, number: u16) -> Text
     ensures { result ≡ line_of_standing number (standing_in (sealed case.now) number) }
 {
     match case.standing(number) {
         Ok(standing) => standing_line(number, standing),
-        Err(_) => Line::new(),
+        Err(_) => Text::new(),
     }
 }
 
 // How the formula with a number stands: an empty line for an open one.
 #[tactic(auto, unfolding(crate::specs::Listing::line_of_standing))]
-fn standing_line(number: u16, standing: Standing) -> Line
+fn standing_line(number: u16, standing: Standing) -> Text
     ensures { result ≡ line_of_standing number (Ok standing) }
 {
     match standing {
         Standing::Derived(first) => settled_line(number, b" derived ", first),
         Standing::Refuted(first) => settled_line(number, b" refuted ", first),
-        Standing::Open => Line::new(),
+        Standing::Open => Text::new(),
     }
 }
 
 // The line of a formula that is not open: its number, a word for how it stands, and the number that it stands by.
-fn settled_line(number: u16, word: &[u8], first: u16) -> Line
-    requires { length word.now ≤ 20 }
+// There has to be room for the word, two numbers and the end.
+fn settled_line(number: u16, word: &[u8], first: u16) -> Text
+    requires { length word.now + DIGITS_MOST + DIGITS_MOST + 1 ≤ TEXT_MOST }
     ensures { result ≡ line (decimal number ++ word.now ++ decimal first) }
 {
-    let mut line = Line::new();
+    let mut line = Text::new();
     line.add_field(b"", usize::from(number));
     line.add_field(word, usize::from(first));
     line.end();
@@ -58,7 +60,7 @@ fn settled_line(number: u16, word: &[u8], first: u16) -> Line
 }
 
 // How the reading of a file ended.
-pub(crate) fn ending_line(ending: Result<usize, Unread>) -> Line
+pub(crate) fn ending_line(ending: Result<usize, Unread>) -> Text
     ensures { result ≡ line_of_ending ending }
 {
     match ending {
@@ -69,10 +71,10 @@ pub(crate) fn ending_line(ending: Result<usize, Unread>) -> Line
 
 // The line of a file that was read to its end: its length.
 #[tactic(auto, unfolding(crate::specs::Listing::line_of_ending))]
-fn length_line(length: usize) -> Line
+fn length_line(length: usize) -> Text
     ensures { result ≡ line_of_ending (Ok length) }
 {
-    let mut line = Line::new();
+    let mut line = Text::new();
     line.add_field(b"read ", length);
     line.end();
     line
@@ -80,10 +82,10 @@ fn length_line(length: usize) -> Line
 
 // The line of any other file: what was refused and where, or that it is too long.
 #[tactic(auto, unfolding(crate::specs::Listing::line_of_ending))]
-fn refusal_line(unread: Unread) -> Line
+fn refusal_line(unread: Unread) -> Text
     ensures { result ≡ line_of_ending (Err unread) }
 {
-    let mut line = Line::new();
+    let mut line = Text::new();
     match unread {
         Unread::TooLong => line.add(b"too long"),
         Unread::Refused(fault) => {

@@ -2,6 +2,7 @@
 ghost use Rattle.std.specs.Prelude.{◌≡◌, ◌*◌, ◌≤◌, length};
 ghost use Rattle.cases.specs.Model.{sealed};
 ghost use Rattle.listing.specs.Listing.{standing_lines_to};
+ghost use Rattle.listing.specs.declared.text.TheConstants.{TEXT_MOST};
 
 use crate::lines::formula_line;
 use cases::SealedCase;
@@ -10,7 +11,7 @@ use cases::SealedCase;
 #[tactic(auto, using(crate::proofs::Growing::lines_more), unfolding(crate::specs::Listing::standing_lines_to))]
 pub(crate) fn standings_len(case: &SealedCase, formulas: u16) -> usize
     ensures value { result ≡ length (standing_lines_to (sealed case.now) formulas) }
-    ensures within { result ≤ 128 * formulas }
+    ensures within { result ≤ TEXT_MOST * formulas }
 {
     let mut len = 0;
     for number in 0..formulas {

@@ -2,7 +2,7 @@
 ghost use Rattle.std.specs.Prelude.{◌≡◌};
 ghost use Rattle.listing.specs.declared.unread.Unread.TheVariants.{Refused};
 
-use files::Fault;
+use records::Fault;
 
 #[derive(Clone, Copy, PartialEq, Eq, Debug)]
 pub enum Unread {

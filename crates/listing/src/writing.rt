@@ -3,6 +3,7 @@ ghost use Rattle.std.specs.Prelude.{◌≡◌};
 ghost use Rattle.cases.specs.Model.{sealed};
 ghost use Rattle.listing.specs.Listing.{listing};
 ghost use Rattle.listing.specs.Room.{AlwaysRoom};
+ghost use Rattle.listing.specs.Telling.{ListingTells};
 ghost use Rattle.listing.specs.Written.{written_answer, written_after};
 
 use crate::lines::{counts_line, ending_line};
@@ -17,7 +18,7 @@ pub const LISTING_MOST: usize = 20_480;
 // Writes the listing to the front of a buffer, and answers its length. All lines are measured before the first is
 // copied, so that a buffer which is too short stays as it is. Into a caller's buffer, and no `Vec`: nothing is
 // allocated after a case is made.
-#[tactic(auto, using(crate::proofs::Room::always_room))]
+#[tactic(auto, using(crate::proofs::Room::always_room, crate::proofs::Telling::listing_tells))]
 pub fn write_listing(
     case: &SealedCase,
     ending: Result<usize, Unread>,
@@ -26,6 +27,7 @@ pub fn write_listing(
     ensures answer { result ≡ written_answer (listing (sealed case.now) ending) buffer.old }
     ensures after { buffer.new ≡ written_after (listing (sealed case.now) ending) buffer.old }
     ensures enough { AlwaysRoom LISTING_MOST }
+    ensures tells { ListingTells }
 {
     let counts = case.counts();
     let formulas = counts.formulas as u16;

@@ -1,8 +1,8 @@
--- `Line::add_number` meets its contract: a number's digits are those of its tenth, and the last one.
+-- `Text::add_number` meets its contract: a number's digits are those of its tenth, and the last one.
 use Rattle.std.proofs.Common.{◌≡◌, ℕ, ◌+◌, ◌/◌, ◌%◌, ◌^◌, ◌<◌, ◌≤◌, List, [], ◌∷◌, ◌++◌, length, decimal, sym, ap, ◌∙◌, append_assoc, arith, length-append}
 use Rattle.std.proofs.lemmas.Fmt.{decimal_digit, decimal_step}
-use Rattle.listing.proofs.line.Line.+add_number.Goals as goal
-use Rattle.listing.proofs.line.Line.+add_number.Goals.{then-is_longer, else-is_longer}
+use Rattle.listing.proofs.text.Text.+add_number.Goals as goal
+use Rattle.listing.proofs.text.Text.+add_number.Goals.{then-is_longer, else-is_longer}
 
 -- a number has one digit more than its tenth
 longer : (n : ℕ) → 10 ≤ n → n < 2 ^ 64 → length (decimal n) ≡ length (decimal (n / 10)) + 1

@@ -1,5 +1,5 @@
 -- The number that is left gets less.
-use Rattle.listing.proofs.line.Line.+add_number.Given as goal
+use Rattle.listing.proofs.text.Text.+add_number.Given as goal
 
 abbrev pub decreases-add_number : goal.decreases-add_number
 decreases-add_number l = l.number

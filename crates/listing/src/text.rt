@@ -1,45 +1,51 @@
-// One line of a listing while it is written.
+// The text of one line of a listing, while it is written.
 ghost use Rattle.std.specs.Prelude.{◌≡◌, ◌+◌, ◌≤◌, [], ◌++◌, length, decimal};
 ghost use Rattle.listing.specs.Listing.{line};
 
 use std::marker::Model;
 
-// No line is longer.
-const LINE_MOST: usize = 128;
+// The text of no line is longer.
+pub(crate) const TEXT_MOST: usize = 128;
+
+// A number of 64 bits has no more digits.
+pub(crate) const DIGITS_MOST: usize = 20;
+
+// Numbers are written in decimal.
+const BASE: usize = 10;
 
 // Fixed room in the place of a `String`: nothing is allocated after a case is made. And in the place of `write!` the
 // methods below: of that no clause says when it succeeds, and a listing is written in every case.
 #[derive(Drop)]
-pub(crate) struct Line {
-    bytes: [u8; LINE_MOST],
+pub(crate) struct Text {
+    bytes: [u8; TEXT_MOST],
     len: usize,
 }
 
 // Clauses see the bytes that are written so far.
-impl Model for Line {
+impl Model for Text {
     ghost use Rattle.std.specs.Prelude.{ℕ, ◌≤◌, List, take};
-    ghost use Rattle.listing.specs.declared.line.TheConstants.{LINE_MOST};
+    ghost use Rattle.listing.specs.declared.text.TheConstants.{TEXT_MOST};
 
     ghost Value = { List ℕ };
 
     ghost view = { λ l. take l.len l.bytes };
 
-    ghost invariant = { λ l. l.len ≤ LINE_MOST };
+    ghost invariant = { λ l. l.len ≤ TEXT_MOST };
 }
 
-impl Line {
-    pub(crate) fn new() -> Line
+impl Text {
+    pub(crate) fn new() -> Text
         ensures { result ≡ [] }
     {
-        Line {
-            bytes: [0; LINE_MOST],
+        Text {
+            bytes: [0; TEXT_MOST],
             len: 0,
         }
     }
 
     // Adds a text. Each method asks for the room that it takes: with an error in its place, a line could fail.
     pub(crate) fn add(&mut self, text: &[u8])
-        requires { length self.old + length text.now ≤ LINE_MOST }
+        requires { length self.old + length text.now ≤ TEXT_MOST }
         ensures { self.new ≡ self.old ++ text.now }
     {
         let end = self.len + text.len();
@@ -49,22 +55,22 @@ impl Line {
 
     // Adds a number in decimal: the digits before the last one, and the last one.
     fn add_number(&mut self, number: usize)
-        requires { length self.old + length (decimal number) ≤ LINE_MOST }
+        requires { length self.old + length (decimal number) ≤ TEXT_MOST }
         ensures { self.new ≡ self.old ++ decimal number }
     {
-        // by name, so that the proof does not hang on the number 10
-        let is_longer = number >= 10;
+        // by name, so that the proof does not hang on how the test is written
+        let is_longer = number >= BASE;
         if is_longer {
-            self.add_number(number / 10);
+            self.add_number(number / BASE);
         }
-        self.add(&[b'0' + (number % 10) as u8]);
+        self.add(&[b'0' + (number % BASE) as u8]);
     }
 
-    // Adds a name and its number, which has 20 digits at most.
+    // Adds a name and its number, with room for as many digits as a number can have.
     pub(crate) fn add_field(&mut self, name: &[u8], number: usize)
-        requires { length self.old + length name.now + 20 ≤ LINE_MOST }
+        requires { length self.old + length name.now + DIGITS_MOST ≤ TEXT_MOST }
         ensures text { self.new ≡ self.old ++ name.now ++ decimal number }
-        ensures within { length self.new ≤ length self.old + length name.now + 20 }
+        ensures within { length self.new ≤ length self.old + length name.now + DIGITS_MOST }
     {
         self.add(name);
         self.add_number(number);
@@ -72,7 +78,7 @@ impl Line {
 
     // Adds the byte that ends every line.
     pub(crate) fn end(&mut self)
-        requires { length self.old + 1 ≤ LINE_MOST }
+        requires { length self.old + 1 ≤ TEXT_MOST }
         ensures { self.new ≡ line self.old }
     {
         self.add(b"\n");
@@ -80,7 +86,7 @@ impl Line {
 
     pub(crate) fn as_slice(&self) -> &[u8]
         ensures text { result.now ≡ self.now }
-        ensures within { length result.now ≤ LINE_MOST }
+        ensures within { length result.now ≤ TEXT_MOST }
     {
         &self.bytes[..self.len]
     }
