@@ -2,7 +2,7 @@
 use Rattle.std.proofs.Common.{◌≡◌, ℕ, ◌<◌, ◌≤◌, leb, List, length, Err, Result, sym, ◌∙◌}
 use Rattle.std.proofs.lemmas.Bool.{cond-true, cond-false, le-leb, lt-leb}
 use Rattle.model.specs.Case.{Case}
-use Rattle.files.specs.declared.fault.Fault.{Fault}
+use Rattle.records.specs.declared.fault.Fault.{Fault}
 use Rattle.files.specs.Reading.{front}
 use Rattle.listing.specs.declared.unread.Unread.TheVariants.{TooLong}
 use Rattle.checker.specs.Checked.{from_front, checked}

@@ -5,9 +5,10 @@ use Rattle.model.specs.Case.{Case}
 use Rattle.model.specs.History.{sealed_stage, after}
 use Rattle.model.specs.Limits.{Limits}
 use Rattle.model.proofs.Histories.{limits_kept}
-use Rattle.files.specs.declared.fault.Fault.{Fault}
+use Rattle.records.specs.declared.fault.Fault.{Fault}
 use Rattle.files.specs.Reading.{front, body}
-use Rattle.files.proofs.Extents.{FrontWithin, BodyWithin, front_within, body_within}
+use Rattle.files.specs.FileReads.{FrontWithin, BodyWithin}
+use Rattle.files.proofs.Within.{front_within, body_within}
 use Rattle.listing.specs.declared.unread.Unread.TheVariants.{TooLong}
 use Rattle.listing.specs.Room.{Fits64}
 use Rattle.listing.proofs.Room.{always_room}
@@ -34,6 +35,10 @@ checked_fits c words bytes =
 pub listings_fit : ListingsFit 20480
 listings_fit h words bytes =
     let later = listed_after_history h words bytes in
+    let within = subst Limits (sym later.2) (limits_kept sealed_stage later.0) in
     always_room (checked (after h) words bytes).case (checked (after h) words bytes).ending
-    (subst Limits (sym later.2) (limits_kept sealed_stage later.0))
+    within.formulas_few
+    within.assumptions_few
+    within.lines_few
+    within.refutations_few
     (checked_fits (after h) words bytes)

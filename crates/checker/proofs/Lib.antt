@@ -1,4 +1,6 @@
 pub mod Checking
 pub mod Listed
+pub mod Page
 pub mod Promised
 pub mod Fitting
+pub mod Starting

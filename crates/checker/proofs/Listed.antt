@@ -6,12 +6,13 @@ use Rattle.model.specs.Case.{Case, empty}
 use Rattle.model.specs.History.{History, open_stage, sealed_stage, new, then_seal, after}
 use Rattle.model.specs.Making.{Makes}
 use Rattle.model.proofs.Making.{made}
-use Rattle.files.specs.declared.fault.Fault.{Fault}
-use Rattle.files.specs.Records.{records}
+use Rattle.records.specs.declared.fault.Fault.{Fault}
+use Rattle.records.specs.Records.{records}
 use Rattle.files.specs.Reading.{front}
+use Rattle.files.specs.FileReads.{FrontWithin}
 use Rattle.files.specs.CallsMade.{front_calls}
 use Rattle.files.proofs.CallsMade.{front_makes_calls, body_makes_calls}
-use Rattle.files.proofs.Extents.{FrontWithin, front_within}
+use Rattle.files.proofs.Within.{front_within}
 use Rattle.listing.specs.Listing.{listing}
 use Rattle.listing.specs.declared.unread.Unread.TheVariants.{TooLong}
 use Rattle.checker.specs.Checked.{program_page, Checked, from_front, checked, file_listing}

@@ -5,7 +5,7 @@ use Rattle.calculus.specs.Published.{published}
 use Rattle.calculus.specs.Derived.{derived}
 use Rattle.calculus.proofs.Lawful.{published_lawful, derived_lawful}
 use Rattle.model.specs.Case.{Case}
-use Rattle.files.specs.declared.fault.Fault.{Fault}
+use Rattle.records.specs.declared.fault.Fault.{Fault}
 use Rattle.files.specs.Reading.{BodyReading, front, body}
 use Rattle.listing.specs.declared.unread.Unread.{Unread}
 use Rattle.listing.specs.declared.unread.Unread.TheVariants.{TooLong, Refused}
@@ -15,6 +15,7 @@ use Rattle.listing.specs.Listing.{listing}
 abbrev pub program_page : Page
 program_page = record { verdict = derived published; lawful = derived_lawful (record { verdict = published; lawful = published_lawful }) }
 
+-- all three of these
 pub record Checked : Type 0 where
   pub case : Case
   pub ending : Result ℕ Unread

@@ -2,8 +2,8 @@
 use Rattle.std.specs.Prelude.{◌≡◌, ℕ, ◌<◌, ◌≤◌, List, length, drop, Ok, Err}
 use Rattle.model.specs.History.{History, open_stage, sealed_stage, then_seal, after}
 use Rattle.model.specs.Making.{Makes}
-use Rattle.files.specs.declared.fault.Fault.{Fault}
-use Rattle.files.specs.Records.{records}
+use Rattle.records.specs.declared.fault.Fault.{Fault}
+use Rattle.records.specs.Records.{records}
 use Rattle.files.specs.Reading.{front}
 use Rattle.files.specs.CallsMade.{front_calls, body_calls}
 use Rattle.checker.specs.Checked.{program_page}

@@ -7,7 +7,7 @@ ghost use Rattle.model.specs.Promises.{ScratchSuffices};
 ghost use Rattle.cases.specs.Model.{opened, sealed};
 ghost use Rattle.listing.specs.Written.{written_answer, written_after};
 ghost use Rattle.checker.specs.Checked.{checked, from_front, file_listing};
-ghost use Rattle.checker.specs.Promises.{ListsHistory, ListingsFit, Promises};
+ghost use Rattle.checker.specs.Promises.{ListsHistory, ListingsFit, StartSuffices, FilePromises};
 
 use cases::{OpenCase, SealedCase};
 use files::{Fault, read_body, read_front};
@@ -17,6 +17,9 @@ use std::alloc::{AllocError, Global};
 
 // The most bytes that a file has.
 pub const FILE_MOST: usize = 16_384;
+
+// Of an input, so many bytes are enough: with one byte more than a file may have it is known to be too long.
+pub const INPUT_MOST: usize = FILE_MOST + 1;
 
 // With so many scratch words no refutation is refused for want of them: four for each of 1,024 formulas.
 pub const SCRATCH_MOST: usize = 4096;
@@ -38,7 +41,7 @@ pub fn list_file(
     ensures answer { result ≡ written_answer (file_listing (opened case) scratch.old file.now) buffer.old }
     ensures after { buffer.new ≡ written_after (file_listing (opened case) scratch.old file.now) buffer.old }
     ensures words { scratch.new ≡ (checked (opened case) scratch.old file.now).scratch }
-    ensures promised { Promises }
+    ensures promised { FilePromises }
     ensures fits { ListingsFit LISTING_MOST }
     ensures suffices { ScratchSuffices SCRATCH_MOST }
 {
@@ -48,11 +51,12 @@ pub fn list_file(
 
 // The listing of a file that is read into a new case. It is that of the history that the file makes: its front's calls,
 // the seal, its body's calls.
-#[tactic(auto, using(crate::proofs::Promised::promises))]
+#[tactic(auto, using(crate::proofs::Promised::promises, crate::proofs::Starting::start_suffices))]
 pub fn listing_of(heap: Global, file: &[u8]) -> Result<Vec<u8>, AllocError>
     ensures text { IfOk result (λ text. text.items ≡ file_listing empty (replicate SCRATCH_MOST 0) file.now) }
     ensures history { IfOk result (λ text. ListsHistory SCRATCH_MOST file.now text.items) }
-    ensures promised { Promises }
+    ensures promised { FilePromises }
+    ensures start { StartSuffices INPUT_MOST }
 {
     let mut scratch = vec![in heap; 0; SCRATCH_MOST]?;
     let mut buffer = vec![in heap; 0; LISTING_MOST]?;
