@@ -45,5 +45,5 @@ pub record Row : Type 0 where
   pub before : History sealed_stage
   pub exchanges : List Exchange
 
-abbrev pub Holds : Row → Type 0
-Holds row = Answered (after row.before) row.exchanges
+abbrev pub RowHolds : Row → Type 0
+RowHolds row = Answered (after row.before) row.exchanges

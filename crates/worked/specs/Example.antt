@@ -1,10 +1,9 @@
 -- The example case: a carry that is owed is assumed to be owed at the next position too.
 use Rattle.std.specs.Prelude.{ℕ, List, [], ◌∷◌, Some, None, Option}
 use Rattle.logic.specs.Run.{Run}
-use Rattle.calculus.specs.Published.{published}
-use Rattle.calculus.proofs.Lawful.{published_lawful}
 use Rattle.runs.specs.Tables.{table_run}
 use Rattle.runs.specs.Pulses.{pulse_run}
+use Rattle.checker.specs.Checked.{program_page}
 use Rattle.model.specs.History.{Stage, open_stage, sealed_stage, Call, form, assume, line, refute, History, new, then, then_seal}
 
 -- a history that goes on with calls, one after another
@@ -12,11 +11,9 @@ abbrev pub with_calls : {s : Stage} → History s → List (Call s) → History 
 with_calls h [] = h
 with_calls h (x ∷ xs) = with_calls (then h x) xs
 
--- a line under the published page: its rule, its formula, and two places
+-- a line under the program's page: its rule, its formula, and two places
 abbrev pub by_rule : ℕ → ℕ → Option ℕ → Option ℕ → Call sealed_stage
-by_rule rule formula first second =
-    line (record { verdict = published; lawful = published_lawful })
-    (record { rule = rule; formula = formula; first = first; second = second })
+by_rule rule formula first second = line program_page (record { rule = rule; formula = formula; first = first; second = second })
 
 -- the table with stem 0, loop 1 and the word 0: v0 is never true
 abbrev pub never : Run

@@ -2,7 +2,7 @@
 use Rattle.std.specs.Prelude.{true, false, List, [], ◌∷◌, Some, None, All}
 use Rattle.refusals.specs.declared.Refusal.TheVariants.{NotAdmitted, AssumptionFalse}
 use Rattle.model.specs.History.{sealed_stage, form, truth, refute, History}
-use Rattle.worked.specs.Asking.{number, value, refused, Exchange, ◌gives◌, Row, Holds}
+use Rattle.worked.specs.Asking.{number, value, refused, Exchange, ◌gives◌, Row, RowHolds}
 use Rattle.worked.specs.Example.{by_rule, never, at_first, blinks, words, sealed, two_lines, three_lines, example}
 
 abbrev row : History sealed_stage → List Exchange → Row
@@ -40,4 +40,4 @@ table =
 
 -- every row holds
 abbrev pub WorkedExamples : Type 0
-WorkedExamples = All Holds table
+WorkedExamples = All RowHolds table
