@@ -1,6 +1,6 @@
-// Derivations of two rules, on always and eventually.
+// Derivations of three rules, on always and eventually.
 use crate::derivation::By::{Assumption, Ind, Ind1, Ltl1, Ltl2, Ltl3, Mp, Nex, Prop, Taut};
-use crate::derivation::{A, B, Derivation, Numbered};
+use crate::derivation::{A, B, C, Derivation, Numbered};
 use crate::formula::Formula;
 use crate::formula::Formula::{Always, And, Eventually, Iff, Implies, Next, Not};
 
@@ -58,5 +58,23 @@ pub(crate) const SOM: Derivation = Derivation {
         Numbered(10, Implies(&NEVER, &Not(&Next(&B))), Prop(&[8, 9])),
         Numbered(11, Implies(&Next(&B), &Not(&NEVER)), Prop(&[10])),
         Numbered(12, Implies(&A, &Eventually(&B)), Prop(&[1, 11])),
+    ],
+};
+
+// □¬C
+const NEVER_C: Formula<'static> = Always(&Not(&C));
+
+// A → ◇B and B → ◇C give A → ◇C.
+pub(crate) const CHAIN: Derivation = Derivation {
+    name: "chain",
+    assumptions: &[Implies(&A, &Eventually(&B)), Implies(&B, &Eventually(&C))],
+    lines: &[
+        Numbered(1, Implies(&A, &Eventually(&B)), Assumption),
+        Numbered(2, Implies(&B, &Eventually(&C)), Assumption),
+        Numbered(3, Implies(&NEVER_C, &Not(&B)), Prop(&[2])),
+        Numbered(4, Implies(&NEVER_C, &And(&Not(&C), &Next(&NEVER_C))), Ltl3),
+        Numbered(5, Implies(&NEVER_C, &Next(&NEVER_C)), Prop(&[4])),
+        Numbered(6, Implies(&NEVER_C, &NEVER), Ind(3, 5)),
+        Numbered(7, Implies(&A, &Eventually(&C)), Prop(&[1, 6])),
     ],
 };

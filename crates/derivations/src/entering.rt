@@ -5,29 +5,11 @@ use anyhow::{anyhow, bail};
 use cases::{OpenCase, SealedCase};
 use formulas::Entry;
 use refusals::Refusal;
-use rules::RulePage;
+use rules::{RulePage, numbers};
 use std::alloc::Global;
 
-// The rules, by their numbers.
+// The rule that is the case's own.
 const ASSUMPTION: u16 = 0;
-
-const TAUT: u16 = 1;
-
-const LTL1: u16 = 2;
-
-const LTL2: u16 = 3;
-
-const LTL3: u16 = 4;
-
-const MP: u16 = 5;
-
-const NEX: u16 = 6;
-
-const IND: u16 = 7;
-
-const ALW: u16 = 16;
-
-const IND1: u16 = 17;
 
 // A line that is held: its number in the derivation, its number in the case, and that of its formula.
 #[derive(Clone, Copy)]
@@ -96,15 +78,15 @@ impl<P: RulePage> Entering<'_, P> {
         let formula = accepted(form(&mut self.case, &formula))?;
         let line = match by {
             By::Assumption => self.line(ASSUMPTION, formula, None, None)?,
-            By::Taut => self.line(TAUT, formula, None, None)?,
-            By::Ltl1 => self.line(LTL1, formula, None, None)?,
-            By::Ltl2 => self.line(LTL2, formula, None, None)?,
-            By::Ltl3 => self.line(LTL3, formula, None, None)?,
-            By::Mp(first, second) => self.from_two(MP, formula, first, second)?,
-            By::Nex(first) => self.from_one(NEX, formula, first)?,
-            By::Ind(first, second) => self.from_two(IND, formula, first, second)?,
-            By::Alw(first) => self.from_one(ALW, formula, first)?,
-            By::Ind1(first) => self.from_one(IND1, formula, first)?,
+            By::Taut => self.line(numbers::TAUT, formula, None, None)?,
+            By::Ltl1 => self.line(numbers::LTL1, formula, None, None)?,
+            By::Ltl2 => self.line(numbers::LTL2, formula, None, None)?,
+            By::Ltl3 => self.line(numbers::LTL3, formula, None, None)?,
+            By::Mp(first, second) => self.from_two(numbers::MP, formula, first, second)?,
+            By::Nex(first) => self.from_one(numbers::NEX, formula, first)?,
+            By::Ind(first, second) => self.from_two(numbers::IND, formula, first, second)?,
+            By::Alw(first) => self.from_one(numbers::ALW, formula, first)?,
+            By::Ind1(first) => self.from_one(numbers::IND1, formula, first)?,
             By::Prop(premises) => self.consequence(premises, formula)?,
         };
         self.held.push(Held {
@@ -138,11 +120,11 @@ impl<P: RulePage> Entering<'_, P> {
     // after another by mp.
     fn consequence(&mut self, premises: &[u16], conclusion: u16) -> anyhow::Result<u16> {
         let mut formula = self.chain(premises, conclusion)?;
-        let mut line = self.line(TAUT, formula, None, None)?;
+        let mut line = self.line(numbers::TAUT, formula, None, None)?;
         for &number in premises {
             let premise = self.found(number)?;
             formula = self.right(formula)?;
-            line = self.line(MP, formula, Some(premise.line), Some(line))?;
+            line = self.line(numbers::MP, formula, Some(premise.line), Some(line))?;
         }
         Ok(line)
     }

@@ -17,7 +17,7 @@ mod next;
 mod steps;
 
 // In the axioms and rules 1 to 7 alone.
-const PUBLISHED: [Derivation; 11] = [
+const PUBLISHED: [Derivation; 12] = [
     steps::PROP,
     next::LTL2_BACK,
     induction::LTL3_BACK,
@@ -25,6 +25,7 @@ const PUBLISHED: [Derivation; 11] = [
     induction::IND2_WRITTEN_OUT,
     always::ALW_WRITTEN_OUT,
     always::SOM,
+    always::CHAIN,
     next::NEXT_OF_BOTH,
     deduction::BY_NEX,
     deduction::BY_IND,

@@ -1,10 +1,9 @@
 // What rows say along a run. Formulas 0 to 3 are v0, ○v0, □v0 and v0 → □v0; v0 is true at position 0 and never again.
+use crate::samples::ONCE;
 use formulas::FormulaList;
 use runs::TableRun;
 use std::test::Fail;
 use truths::{first_false, truth_at, write_rows};
-
-const RUN: [u8; 12] = [1, 0, 1, 0, 1, 0, 0, 0, 0, 0, 0, 0];
 
 #[test]
 fn rows_say_what_holds(rt: HostRuntime) -> Result<(), Fail> {
@@ -13,7 +12,7 @@ fn rows_say_what_holds(rt: HostRuntime) -> Result<(), Fail> {
         let _ = formulas.form(kind, left, right);
     }
     let mut words = [7; 17];
-    assert!(rt; write_rows(&formulas, &TableRun::new(&RUN), &mut words));
+    assert!(rt; write_rows(&formulas, &TableRun::new(&ONCE), &mut words));
     let told = [
         (0, true, false),
         (1, false, false),
@@ -37,7 +36,7 @@ fn too_few_words_stay(rt: HostRuntime) -> Result<(), Fail> {
     let mut formulas = FormulaList::new(rt.alloc())?;
     let _ = formulas.form(1, 0, 0);
     let mut words = [7; 3];
-    assert!(rt; !write_rows(&formulas, &TableRun::new(&RUN), &mut words));
+    assert!(rt; !write_rows(&formulas, &TableRun::new(&ONCE), &mut words));
     assert!(rt; words == [7; 3]);
     Ok(())
 }

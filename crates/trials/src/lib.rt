@@ -6,6 +6,8 @@ mod along;
 #[cfg(test)]
 mod bodies;
 #[cfg(test)]
+mod body_records;
+#[cfg(test)]
 mod borders;
 #[cfg(test)]
 mod entering;
@@ -17,8 +19,6 @@ mod judging;
 mod listings;
 #[cfg(test)]
 mod order;
-#[cfg(test)]
-mod records;
 #[cfg(test)]
 mod refuting;
 #[cfg(test)]
