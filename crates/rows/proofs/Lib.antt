@@ -1,3 +1,4 @@
 pub mod Bits
 pub mod Rows
 mod Steps
+mod Moving

@@ -1,15 +1,13 @@
 -- Rows by their bits: what words a row has, what a row of a function says, and that rows with the same bits are equal.
-use Rattle.std.proofs.Common.{◌≡◌, ℕ, zero, suc, ◌+◌, ◌-◌, ◌*◌, ◌/◌, ◌%◌, ◌^◌, ◌<◌, ◌≤◌, Bool, true, false, cond, not, ◌&&◌, ◌||◌, eqb, ltb, ◌↔◌, IsTrue, List, [], ◌∷◌, length, get_or, sym, refl, ap, ◌∙◌, subst, ap₂, ⊎_elim, pow-suc, arith}
+use Rattle.std.proofs.Common.{◌≡◌, ℕ, zero, suc, ◌+◌, ◌-◌, ◌*◌, ◌/◌, ◌%◌, ◌^◌, ◌<◌, ◌≤◌, Bool, true, false, cond, not, ◌&&◌, ◌||◌, eqb, ltb, List, [], ◌∷◌, length, get_or, sym, refl, ap, ◌∙◌, subst, ap₂, ⊎_elim, pow-suc, arith}
 use lib.Bits.{bit_and, bit_or, and_lt, or_lt}
-use Rattle.std.specs.List.{EachIndex}
 use lib.Count.{count_leading_zeros, leading_length}
 use Rattle.std.proofs.lemmas.List.{get_or_past}
-use Rattle.std.proofs.lemmas.Bool.{cases_lt, cases_eq, lt-ltb, lt-leb, le-leb, and_right, and_left, and_from, ne_eqb, eq-eqb, cases_Bool, both_ways}
+use Rattle.std.proofs.lemmas.Bool.{cases_lt, cases_eq, lt-leb, le-leb, and_right, and_left, and_from, ne_eqb, eq-eqb, cases_Bool, both_ways}
 use Rattle.std.proofs.Math.Bool.{or-false}
-use Rattle.std.specs.Cmp as cmp
 use Rattle.std.proofs.lemmas.Bool.Decides.{nat_tests}
 use Rattle.rows.specs.Row.{testBit, low_ones, bit, row_of, true_from, Ends}
-use Rattle.rows.proofs.Bits.{bit_zero, bit_half, bit_shl, bit_above, bit_top, bit_one, bit_pack, testBit_and, testBit_or, bit_not, bit_ones, bits_same, pack_lt, is_pack}
+use Rattle.rows.proofs.Bits.{bit_zero, bit_half, bit_shl, bit_above, bit_top, bit_one, bit_pack, testBit_and, testBit_or, bit_not, pack_lt, is_pack}
 
 -- the word w, as the word k of a row, says what f says
 pub record Says (w k : ℕ) (f : ℕ → Bool) : Type 0 where
@@ -238,15 +236,3 @@ true_from_false f k (suc n) j p q e =
 pub true_from_at : (f : ℕ → Bool) (k n j : ℕ) → true_from n k f ≡ true → k ≤ j → j < k + n → f j ≡ true
 true_from_at f k n j all p q =
     ⊎_elim (λ t. t) (λ e. absurd (both_ways (true_from n k f) (true_from_false f k n j p q e) all)) (cases_Bool (f j))
-
--- whether all words are all ones says whether all positions are true
-pub full_row : (row : List ℕ) (b : Bool) → length row ≡ 4 → ((k : ℕ) → k < 4 → get_or row k 0 < 2 ^ 64)
-    → IsTrue b ↔ EachIndex row (λ k. get_or row k 0 ≡ 18446744073709551615) → b ≡ true_from 256 0 (bit row)
-full_row row b n fits is = cmp.both_ways b (true_from 256 0 (bit row))
-    (λ t. true_from_true (bit row) 0 256 (λ j l h.
-    let e : j ≡ 64 * (j / 64) + j % 64 = omega arith in
-    ap (bit row) e ∙ bit_word row (j / 64) (j % 64) (omega arith)
-    ∙ ap (λ w. testBit w (j % 64)) (is.0 t (j / 64) (omega arith)) ∙ bit_ones 64 (j % 64) ∙ lt-ltb (j % 64) 64 (omega arith)))
-    (λ all. is.1 (λ k h. bits_same 64 (get_or row k 0) (2 ^ 64 - 1) (fits k (omega arith)) (omega arith)
-    (λ i l. sym (bit_word row k i l) ∙ true_from_at (bit row) 0 256 (64 * k + i) all (omega arith) (omega arith)
-    ∙ sym (bit_ones 64 i ∙ lt-ltb i 64 l))))

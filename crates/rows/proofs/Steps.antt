@@ -20,6 +20,27 @@ implies_row a b m d r n em ed er =
     (λ i h. ap₂ (λ x y. x && not y) (said m (λ i. ltb i n) em i h) (said d (λ i. bit a i && not (bit b i)) ed i h)
     ∙ but_not (ltb i n) (bit a i) (bit b i))
 
+-- ---- true below a position
+
+-- what is missing of a row below n ends at 0 exactly when nothing is missing
+pub below_row : (row m d : List ℕ) (n e : ℕ) → n ≤ 256 → m ≡ row_of (λ i. ltb i n) → d ≡ row_of (λ i. bit m i && not (bit row i))
+    → Ends d e → eqb e 0 ≡ true_from n 0 (bit row)
+below_row row m d n e fits em ed ends =
+    let missing : (i : ℕ) → i < 256 → bit d i ≡ (ltb i n && not (bit row i)) =
+    λ i h. said d (λ i. bit m i && not (bit row i)) ed i h ∙ ap (λ x. x && not (bit row i)) (said m (λ i. ltb i n) em i h) in
+    ⊎_elim
+    (λ (none : e ≡ 0).
+    eq-eqb e 0 none
+    ∙ sym (true_from_true (bit row) 0 n
+    (λ j l h. not-false (bit row j) (sym (ap (λ b. b && not (bit row j)) (lt-ltb j n (omega arith))) ∙ sym (missing j (omega arith)) ∙ ends.within j (omega arith)))))
+    (λ some.
+    let p : ℕ = e - 1 in
+    let at : (ltb p n && not (bit row p)) ≡ true = sym (missing p (omega (arith, ends.fits, some))) ∙ ends.last p (omega (arith, some)) in
+    let parts = and_parts (ltb p n) (not (bit row p)) at in
+    ne_eqb e 0 some
+    ∙ sym (true_from_false (bit row) 0 n p (omega arith) (omega (arith, ltb-true p n parts.0)) (not-true (bit row p) parts.1)))
+    (cases_eq e 0)
+
 -- ---- next
 
 pub next_row : (a m e o r : List ℕ) (s n : ℕ) → s < n → n ≤ 256 → m ≡ row_of (λ i. ltb i (n - 1)) → e ≡ row_of (λ i. bit a (i + 1))

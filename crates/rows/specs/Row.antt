@@ -1,5 +1,5 @@
 -- Rows: 256 truths in four words of 64 bits, lowest first.
-use Rattle.std.specs.Prelude.{◌≡◌, ℕ, zero, suc, ◌+◌, ◌*◌, ◌/◌, ◌%◌, ◌^◌, ◌≤◌, Bool, true, false, cond, ◌&&◌, List, [], ◌∷◌, ◌==◌, nat_lt, slice_index}
+use Rattle.std.specs.Prelude.{◌≡◌, ℕ, zero, suc, ◌+◌, ◌-◌, ◌*◌, ◌/◌, ◌%◌, ◌^◌, ◌≤◌, Bool, true, false, cond, ◌&&◌, List, [], ◌∷◌, ◌==◌, nat_le, nat_lt, slice_index, slice_index_or, bit_or}
 
 -- bit i of the number w
 unfoldable pub testBit : ℕ → ℕ → Bool
@@ -34,6 +34,14 @@ true_from (suc n) k f = f k && true_from n (suc k) f
 -- the position after i on a run whose last position, n - 1, is followed by s
 abbrev pub after : ℕ → ℕ → ℕ → ℕ
 after s n i = cond (nat_lt (i + 1) n) (i + 1) s
+
+-- the word of a row m words below its word k, or 0 where there is none
+abbrev pub word_behind : List ℕ → ℕ → ℕ → ℕ
+word_behind row m k = cond (nat_le m k) (slice_index_or row (k - m) 0) 0
+
+-- the word k of a row that is moved up by 64 * m + n places
+unfoldable pub word_moved : List ℕ → ℕ → ℕ → ℕ → ℕ
+word_moved row m n k = bit_or ((word_behind row m k * 2 ^ n) % 2 ^ 64) (word_behind row (m + 1) k / 2 / 2 ^ (63 - n))
 
 -- a row is false from n on
 abbrev pub Within : List ℕ → ℕ → Type 0

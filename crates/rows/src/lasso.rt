@@ -1,18 +1,27 @@
 // The shape of a run that has room in a row: a stem, and a loop that is not empty.
-ghost use Rattle.std.specs.Prelude.{◌+◌, ◌<◌, ◌≤◌};
+ghost use Rattle.std.specs.Prelude.{◌≡◌, ◌+◌, ◌-◌, ◌<◌, ◌≤◌, ◌==◌, nat_lt};
+ghost use Rattle.rows.specs.Row.{row_of};
 
-use crate::POSITIONS;
+use crate::words::{mask, place};
+use crate::{POSITIONS, Row};
 
+// The masks of its rows are made once, with it.
 #[derive(Clone, Copy)]
 pub struct Lasso {
     pub(crate) stem: usize,
     pub(crate) loop_length: usize,
+    // all positions, those before the last, and the last
+    pub(crate) all: Row,
+    pub(crate) inner: Row,
+    pub(crate) last: Row,
     ghost turns: { 0 < loop_length },
     ghost fits: { stem + loop_length ≤ 256 },
+    ghost whole: { all ≡ row_of (λ i. nat_lt i (stem + loop_length)) },
+    ghost before: { inner ≡ row_of (λ i. nat_lt i (stem + loop_length - 1)) },
+    ghost end: { last ≡ row_of (λ i. i == stem + loop_length - 1) },
 }
 
 impl Lasso {
-    ghost use Rattle.std.specs.Prelude.{◌≡◌};
     ghost use Rattle.std.specs.Option.{option_map};
     ghost use Rattle.rows.specs.Shape.{lasso_of, shape};
 
@@ -25,7 +34,14 @@ impl Lasso {
         if loop_length == 0 || stem + loop_length > POSITIONS {
             return None;
         }
-        Some(Lasso { stem, loop_length })
+        let positions = stem + loop_length;
+        Some(Lasso {
+            stem,
+            loop_length,
+            all: mask(positions),
+            inner: mask(positions - 1),
+            last: place(true, positions - 1),
+        })
     }
 
     // The positions up to the loop's end.

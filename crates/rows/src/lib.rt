@@ -4,13 +4,13 @@
 ghost use Rattle.std.specs.Prelude.{◌≡◌, ◌+◌, ◌-◌, min, not, ◌&&◌, ◌||◌, ◌==◌};
 ghost use Rattle.rows.specs.Row.{bit, row_of, row_up_to, true_from, after};
 
-use std::array;
-use words::{and, earlier, end, mask, minus, or, place};
+use words::{earlier, end, minus, place};
 
 mod lasso;
 mod words;
 
 pub use lasso::Lasso;
+pub use words::{and, later, mask, or};
 
 // A row has so many words.
 pub const WORDS: usize = 4;
@@ -46,40 +46,36 @@ pub fn put(row: Row, position: usize, truth: bool) -> Row
 pub fn implies(a: Row, b: Row, lasso: Lasso) -> Row
     ensures { result ≡ row_up_to (lasso.stem + lasso.loop_length) (λ i. not (bit a i) || bit b i) }
 {
-    minus(mask(lasso.positions()), minus(a, b))
+    minus(lasso.all, minus(a, b))
 }
 
-// Where `a` is false or `b` is true, at all positions.
-pub fn implies_throughout(a: Row, b: Row) -> Row
-    ensures { result ≡ row_of (λ i. not (bit a i) || bit b i) }
+// Whether a row is true at each position below `positions`.
+pub fn is_true_below(row: Row, positions: usize) -> bool
+    ensures { result ≡ true_from positions 0 (bit row) }
 {
-    array::from_fn(|index| b[index] | !a[index])
-}
-
-// Whether a row is true at all positions.
-pub fn is_full(row: Row) -> bool
-    ensures { result ≡ true_from 256 0 (bit row) }
-{
-    row.iter().all(|word| *word == u64::MAX)
+    positions <= POSITIONS && end(minus(mask(positions), row)) == 0
 }
 
 // Where `a` is true at the next position, which at the loop's end is its first.
 pub fn next(a: Row, lasso: Lasso) -> Row
     ensures { result ≡ row_up_to (lasso.stem + lasso.loop_length) (λ i. bit a (after lasso.stem (lasso.stem + lasso.loop_length) i)) }
 {
-    let last = lasso.positions() - 1;
-    put(and(mask(last), earlier(a)), last, at(a, lasso.stem))
+    let row = and(lasso.inner, earlier(a));
+    if at(a, lasso.stem) {
+        or(row, lasso.last)
+    } else {
+        row
+    }
 }
 
 // Where `a` is true from there on, through the whole loop.
 pub fn always(a: Row, lasso: Lasso) -> Row
     ensures { result ≡ row_up_to (lasso.stem + lasso.loop_length) (λ i. true_from (lasso.stem + lasso.loop_length - min i lasso.stem) (min i lasso.stem) (bit a)) }
 {
-    let full = mask(lasso.positions());
-    let fails = end(minus(full, a));
+    let fails = end(minus(lasso.all, a));
     if fails > lasso.stem {
         EMPTY
     } else {
-        minus(full, mask(fails))
+        minus(lasso.all, mask(fails))
     }
 }

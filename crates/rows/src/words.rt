@@ -1,6 +1,6 @@
 // The words of rows: masks, what is common or not, a shift by one position, and where a row ends.
-ghost use Rattle.std.specs.Prelude.{◌≡◌, ◌+◌, not, ◌&&◌, ◌||◌, ◌==◌, nat_lt};
-ghost use Rattle.rows.specs.Row.{low_ones, bit, row_of, Ends};
+ghost use Rattle.std.specs.Prelude.{◌≡◌, ◌+◌, ◌-◌, ◌<◌, not, ◌&&◌, ◌||◌, ◌==◌, nat_lt, nat_le};
+ghost use Rattle.rows.specs.Row.{low_ones, bit, row_of, word_behind, word_moved, Ends};
 
 use crate::{BITS, Row, WORDS};
 use std::array;
@@ -13,21 +13,21 @@ fn ones(n: usize) -> u64
 }
 
 // The row that is true at each position below `n`.
-pub(crate) fn mask(n: usize) -> Row
+pub fn mask(n: usize) -> Row
     ensures { result ≡ row_of (λ i. nat_lt i n) }
 {
     array::from_fn(|index| ones(n.saturating_sub(BITS * index)))
 }
 
 // Where `a` and `b` are true. This and the next two are one call of the library: what differs is its closure.
-pub(crate) fn and(a: Row, b: Row) -> Row
+pub fn and(a: Row, b: Row) -> Row
     ensures { result ≡ row_of (λ i. bit a i && bit b i) }
 {
     array::from_fn(|index| a[index] & b[index])
 }
 
 // Where `a` or `b` is true.
-pub(crate) fn or(a: Row, b: Row) -> Row
+pub fn or(a: Row, b: Row) -> Row
     ensures { result ≡ row_of (λ i. bit a i || bit b i) }
 {
     array::from_fn(|index| a[index] | b[index])
@@ -75,4 +75,31 @@ pub(crate) fn earlier(a: Row) -> Row
         let above = a.get(index + 1).copied().unwrap_or(0);
         (a[index] >> 1) | (above << (BITS - 1))
     })
+}
+
+// The word of a row so many words below the one at an index, or 0 where there is none.
+fn word_below(a: Row, index: usize, words: usize) -> u64
+    requires { index < 4 }
+    ensures { result ≡ word_behind a words index }
+{
+    if words <= index { a[index - words] } else { 0 }
+}
+
+// The word of a row that is moved up by so many words and bits. Down by one place first, and then by 63 at most.
+#[tactic(auto, unfolding(crate::specs::Row::word_moved))]
+fn moved_word(a: Row, index: usize, words: usize, bits: usize) -> u64
+    requires there { index < 4 }
+    requires within { bits < 64 }
+    ensures { result ≡ word_moved a words bits index }
+{
+    let low = word_below(a, index, words) << bits;
+    let high = (word_below(a, index, words.saturating_add(1)) >> 1) >> (BITS - 1 - bits);
+    low | high
+}
+
+// Where `a` is true so many positions before.
+pub fn later(a: Row, places: usize) -> Row
+    ensures { result ≡ row_of (λ i. nat_le places i && bit a (i - places)) }
+{
+    array::from_fn(|index| moved_word(a, index, places / BITS, places % BITS))
 }

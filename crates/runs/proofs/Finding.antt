@@ -47,3 +47,11 @@ pulsed_found loop pulses n a i None answer p none off says =
     off ∙ sym (false_from_ne_true (pulsed pulses n a i) (λ t. let by = pulsing pulses n a i t in none by.0 by.1 by.2))
 pulsed_found loop pulses n a i (Some e) answer p one shown says =
     says e shown ∙ ap (λ e. on e i) (sym one.3) ∙ sym (pulsed_alone loop pulses n a i one.0 p one.1 one.2)
+
+-- the atom of a pulse that is found is true where the pulse is on, and without one it is never true
+module _ (loop : ℕ) (pulses : ℕ → Pulse) (n a i : ℕ) (p : in_order loop pulses n ≡ true) where
+  pub pulsed_one : (e : Pulse) → FindsPulse pulses n a (Some e) → on e i ≡ pulsed pulses n a i
+  pulsed_one e one = pulsed_found {On = λ d. on e i ≡ on d i} loop pulses n a i (Some e) (on e i) p one refl (λ d shown. shown)
+
+  pub pulsed_none : FindsPulse pulses n a None → false ≡ pulsed pulses n a i
+  pulsed_none none = pulsed_found {On = λ d. false ≡ on d i} loop pulses n a i None false p none refl (λ d shown. shown)

@@ -7,3 +7,4 @@ pub mod Ruled
 pub mod Chunks
 pub mod Arrays
 pub mod Finding
+mod Doubling

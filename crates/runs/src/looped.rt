@@ -1,9 +1,12 @@
 // Runs that are read off up to the loop's end, whatever says which atoms are true there.
 ghost use Rattle.std.specs.Prelude.{◌≡◌, ℕ, ◌<◌, Bool, true, ⊤};
+ghost use Rattle.rows.specs.Row.{row_up_to};
 ghost use Rattle.runs.specs.Looping.{looped};
 
 use crate::source::RunSource;
+use rows::{EMPTY, POSITIONS, Row, put};
 use std::alloc::AllocError;
+use std::cmp::min;
 
 // How many atoms there are.
 pub(crate) const ATOMS: u16 = 32;
@@ -21,6 +24,22 @@ pub trait Positions {
         requires atom { atom < 32 }
         requires fits { (loop : ℕ) × (fits loop self.now ≡ true) }
         ensures { result ≡ truths self.now atom position };
+
+    // The truths of an atom in a row, up to a position. One by one, where there is no faster way.
+    fn row(&self, atom: u8, end: usize) -> Row
+        requires atom { atom < 32 }
+        requires fits { (loop : ℕ) × (fits loop self.now ≡ true) }
+        ensures { result ≡ row_up_to end (truths self.now atom) }
+    {
+        let mut row = EMPTY;
+        // No fold: a closure that calls a bound needs clauses of its own, longer than this loop.
+        // And a name for each longer row: the check proves no call that is laid into the row that it reads.
+        for position in 0..min(end, POSITIONS) {
+            let more = put(row, position, self.is_true(atom, position));
+            row = more;
+        }
+        row
+    }
 }
 
 // A run that is read off the positions up to its loop's end.
@@ -77,5 +96,13 @@ impl<P: Positions> RunSource for Looped<P> {
         u16::from(atom) < ATOMS
             && position < usize::from(self.stem) + usize::from(self.loop_length)
             && self.positions.is_true(atom, position)
+    }
+
+    fn row(&self, atom: u8) -> Row {
+        if u16::from(atom) >= ATOMS {
+            return EMPTY;
+        }
+        let end = usize::from(self.stem) + usize::from(self.loop_length);
+        self.positions.row(atom, end)
     }
 }

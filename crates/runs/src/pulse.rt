@@ -1,8 +1,10 @@
 // One atom's pulse.
 ghost use Rattle.std.specs.Prelude.{◌≡◌, ◌<◌};
+ghost use Rattle.rows.specs.Row.{row_of};
 ghost use Rattle.runs.specs.Pulses.{pulse_at, on, allowed};
 
 use crate::looped::ATOMS;
+use rows::{POSITIONS, Row, and, later, mask, or};
 
 // From its first position on, an atom is true for its width in every period.
 #[derive(Clone, Copy)]
@@ -44,6 +46,22 @@ impl Pulse {
     {
         let first = usize::from(self.first);
         first <= position && (position - first) % usize::from(self.period) < usize::from(self.width)
+    }
+
+    // Where the pulse is on, in a row: its widths from position 0 on, which are doubled until they fill the row, then moved to
+    // its first position.
+    pub(crate) fn row(self) -> Row
+        requires { 0 < self.period }
+        ensures { result ≡ row_of (on self) }
+    {
+        let mut filled = usize::from(self.period);
+        let mut widths = and(mask(filled), mask(usize::from(self.width)));
+        while filled < POSITIONS {
+            let more = or(widths, later(widths, filled));
+            widths = more;
+            filled *= 2;
+        }
+        later(widths, usize::from(self.first))
     }
 
     // Whether a run with a loop may have the pulse.

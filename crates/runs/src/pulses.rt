@@ -7,6 +7,7 @@ ghost use Rattle.runs.specs.Pulses.{pulse_in, pulsed, in_order, latest, FindsPul
 use crate::fault::RunFault;
 use crate::looped::{Looped, Positions};
 use crate::pulse::Pulse;
+use rows::{EMPTY, Row, and, mask};
 
 // The pulses of a run, by rising atom.
 #[derive(Clone, Copy)]
@@ -67,6 +68,13 @@ impl Positions for Pulses<'_> {
     fn is_true(&self, atom: u8, position: usize) -> bool {
         self.of_atom(atom)
             .is_some_and(|pulse| pulse.is_on(position))
+    }
+
+    fn row(&self, atom: u8, end: usize) -> Row {
+        match self.of_atom(atom) {
+            Some(pulse) => and(mask(end), pulse.row()),
+            None => EMPTY,
+        }
     }
 }
 

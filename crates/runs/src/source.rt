@@ -1,7 +1,10 @@
 // What every run source tells.
 ghost use Rattle.std.specs.Prelude.{◌≡◌};
+ghost use Rattle.rows.specs.Row.{row_of};
 ghost use Rattle.logic.specs.Run.{Run};
 ghost use Rattle.runs.specs.Telling.{told};
+
+use rows::Row;
 
 // A source means one looped run, and tells its stem, its loop, and the truth of the atoms 0 to 31 up to the loop's
 // end. Any other atom and any later position is told to be false.
@@ -16,4 +19,8 @@ pub trait RunSource {
 
     fn says(&self, atom: u8, position: usize) -> bool
         ensures { result ≡ told (meaning self.now) atom position };
+
+    // What is told of an atom at each position of a row.
+    fn row(&self, atom: u8) -> Row
+        ensures { result ≡ row_of (told (meaning self.now) atom) };
 }

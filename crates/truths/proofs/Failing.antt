@@ -39,6 +39,13 @@ none_false (suc n) i p = cond_both (p i) (first_false_from n (i + 1) p) (Some i)
     (λ here e j le lt. here_and_behind p i (i + suc n) here (λ k a b. none_false n (i + 1) p e k a (omega arith)) j le lt)
     (λ here e. absurd (some_not_none e))
 
+-- where all is true, nothing is found
+pub nothing_false : (n i : ℕ) (p : ℕ → Bool) → ((j : ℕ) → i ≤ j → j < i + n → p j ≡ true) → first_false_from n i p ≡ None
+unfolding first_false_from
+nothing_false zero i p all = refl
+nothing_false (suc n) i p all =
+    ap (λ b. cond b (first_false_from n (i + 1) p) (Some i)) (all i (omega arith) (omega arith)) ∙ nothing_false n (i + 1) p (λ j le lt. all j (omega arith) (omega arith))
+
 first_false_same : (n i : ℕ) (p q : ℕ → Bool) → ((j : ℕ) → i ≤ j → j < i + n → p j ≡ q j) → first_false_from n i p ≡ first_false_from n i q
 unfolding first_false_from
 first_false_same zero i p q same = refl

@@ -1,9 +1,19 @@
 // The search for a formula that is false somewhere, in the rows.
 ghost use Rattle.std.specs.Prelude.{◌≡◌};
+ghost use Rattle.rows.specs.Row.{true_from};
 ghost use Rattle.truths.specs.Along.{row_says};
 ghost use Rattle.truths.specs.Searching.{first_failing};
 
+use crate::store::load;
 use crate::truth_at;
+use rows::is_true_below;
+
+// Whether the row of a formula is true at each position below `positions`, which is seen by its words.
+fn is_never_false(words: &[u64], formula: u16, positions: usize) -> bool
+    ensures { result ≡ true_from positions 0 (row_says words.now formula) }
+{
+    is_true_below(load(words, formula), positions)
+}
 
 // Of the formulas with these numbers, the place of the first that is false somewhere below `positions`, and the first
 // position where it is.
@@ -14,6 +24,9 @@ pub fn first_false(words: &[u64], formulas: &[u16], positions: usize) -> Option<
     // Left by a label, and no chain of iterators: the break leaves both loops at once, and each of the two loops is one line
     // of the search.
     'search: for (place, formula) in formulas.iter().enumerate() {
+        if is_never_false(words, *formula, positions) {
+            continue;
+        }
         for position in 0..positions {
             if !truth_at(words, *formula, position) {
                 found = Some((place, position));

@@ -1,12 +1,10 @@
 // A run with the lasso that it has, and the rows of entries along it.
 ghost use Rattle.std.specs.Prelude.{◌≡◌, ◌+◌, ◌≤◌, ◌↔◌, IsSome, IfSome};
-ghost use Rattle.runs.specs.Telling.{told};
-ghost use Rattle.rows.specs.Row.{row_of};
 ghost use Rattle.truths.specs.Steps.{entry_row};
 
 use crate::store::load;
 use formulas::Entry;
-use rows::{EMPTY, Lasso, Row, always, implies, next, put};
+use rows::{EMPTY, Lasso, Row, always, implies, next};
 use runs::RunSource;
 
 // A source of a run that has room in rows, with the run's shape.
@@ -28,27 +26,13 @@ impl<'a, R: RunSource> Along<'a, R> {
         Some(Along { source, lasso })
     }
 
-    // What the source tells of an atom, at each position up to the loop's end.
-    fn atom_row(&self, atom: u8) -> Row
-        ensures { result ≡ row_of (told (R.RunSource.meaning self.now.source.now) atom) }
-    {
-        let mut row = EMPTY;
-        // No fold: a closure that calls a bound needs clauses of its own, longer than this loop.
-        // And a name for each longer row: the check proves no call that is laid into the row that it reads.
-        for position in 0..self.lasso.positions() {
-            let more = put(row, position, self.source.says(atom, position));
-            row = more;
-        }
-        row
-    }
-
     // The row of an entry, where those of its operands are in the words.
     pub(crate) fn row(&self, entry: Entry, words: &[u64]) -> Row
         ensures { result ≡ entry_row (R.RunSource.meaning self.now.source.now) words.now entry }
     {
         match entry {
             Entry::False => EMPTY,
-            Entry::Atom(atom) => self.atom_row(atom),
+            Entry::Atom(atom) => self.source.row(atom),
             Entry::Implies(left, right) => {
                 implies(load(words, left), load(words, right), self.lasso)
             }

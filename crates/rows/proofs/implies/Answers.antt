@@ -1,11 +1,9 @@
 -- Up to the loop's end, and not where `a` is true and `b` is not.
-use Rattle.std.proofs.Common.{◌≡◌, ℕ, ltb, subst}
-use Rattle.rows.specs.Row.{row_of}
+use Rattle.std.proofs.Common.{◌+◌}
 use Rattle.rows.proofs.Steps.{implies_row}
 use Rattle.rows.proofs.implies.Goals as goal
 
 pub returns : goal.returns
 returns c =
-    implies_row c.args.a c.args.b c.mask.result c.minus.result c.minus-2.result _
-    (subst (λ (n : ℕ). c.mask.result ≡ row_of (λ i. ltb i n)) c.positions.ensures c.mask.ensures)
-    c.minus.ensures c.minus-2.ensures
+    let l = c.args.lasso in
+    implies_row c.args.a c.args.b l.all c.minus.result c.minus-2.result (l.stem + l.loop_length) l.whole c.minus.ensures c.minus-2.ensures

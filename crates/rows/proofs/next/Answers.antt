@@ -1,15 +1,27 @@
 -- One position on, and at the loop's end at its first.
-use Rattle.std.proofs.Common.{◌≡◌, ℕ, ◌+◌, ◌-◌, Bool, ◌&&◌, ◌||◌, eqb, ltb, subst, arith}
-use Rattle.rows.specs.Row.{bit, row_of}
+use Rattle.std.proofs.Common.{ℕ, ◌+◌, ◌-◌, ◌&&◌, ◌||◌, eqb, sym, ap, ◌∙◌, arith}
+use Rattle.std.proofs.Math.Bool.{or-false}
+use Rattle.rows.specs.Row.{bit}
+use Rattle.rows.proofs.Rows.{said, row_of_same}
 use Rattle.rows.proofs.Steps.{next_row}
 use Rattle.rows.proofs.next.Goals as goal
 
-pub returns : goal.returns
-returns c =
-    let n : ℕ = c.args.lasso.stem + c.args.lasso.loop_length in
-    next_row c.args.a c.mask.result c.earlier.result c.and.result c.put.result c.args.lasso.stem n
-    (omega arith) (omega arith)
-    (subst (λ (k : ℕ). c.mask.result ≡ row_of (λ i. ltb i (k - 1))) c.positions-last.ensures c.mask.ensures)
-    c.earlier.ensures c.and.ensures
-    (subst (λ (k : ℕ). c.put.result ≡ row_of (λ i. bit c.and.result i || (bit c.args.a c.args.lasso.stem && eqb i (k - 1)))) c.positions-last.ensures
-    (subst (λ (b : Bool). c.put.result ≡ row_of (λ i. bit c.and.result i || (b && eqb i (c.positions-last.result - 1)))) c.at.ensures c.put.ensures))
+pub returns-then-at : goal.returns-then-at
+returns-then-at c =
+    let l = c.args.lasso in
+    let last : ℕ = l.stem + l.loop_length - 1 in
+    next_row c.args.a l.inner c.earlier.result c.and-row.result c.or.result l.stem (l.stem + l.loop_length)
+    (omega (arith, l.turns)) (omega (arith, l.fits)) l.before c.earlier.ensures c.and-row.ensures
+    (c.or.ensures ∙ row_of_same _ _
+    (λ i h. ap (λ b. bit c.and-row.result i || b) (said l.last (λ i. eqb i last) l.end i h ∙ ap (λ b. b && eqb i last) (sym (sym c.at.ensures ∙ c.if-at.true)))))
+
+pub returns-else-at : goal.returns-else-at
+returns-else-at c =
+    let l = c.args.lasso in
+    let last : ℕ = l.stem + l.loop_length - 1 in
+    let row = c.and-row.result in
+    next_row c.args.a l.inner c.earlier.result row row l.stem (l.stem + l.loop_length)
+    (omega (arith, l.turns)) (omega (arith, l.fits)) l.before c.earlier.ensures c.and-row.ensures
+    (c.and-row.ensures ∙ row_of_same _ _
+    (λ i h. sym (said row (λ i. bit l.inner i && bit c.earlier.result i) c.and-row.ensures i h)
+    ∙ sym (or-false (bit row i)) ∙ ap (λ b. bit row i || (b && eqb i last)) (sym (sym c.at.ensures ∙ c.if-at.false))))

@@ -2,7 +2,8 @@
 use Rattle.std.proofs.Common.{◌≡◌, false, get_or, Some, None, sym, ◌∙◌}
 use Rattle.truths.specs.Along.{row_says}
 use Rattle.truths.specs.Searching.{first_false_from}
-use Rattle.truths.proofs.Failing.{false_later, false_here, false_nowhere, failing_later, failing_here, failing_nowhere}
+use Rattle.truths.proofs.Failing.{false_later, false_here, false_nowhere, failing_later, failing_here, failing_nowhere, nothing_false}
+use Rattle.rows.proofs.Rows.{true_from_at}
 use Rattle.truths.proofs.searching.first_false.Goals as goal
 
 pub loop-position-preserved : goal.loop-position-preserved
@@ -31,3 +32,10 @@ returns-then-not-truth_at c =
     let found : first_false_from c.args.positions 0 p ≡ Some c.loop-position.position =
     c.loop-position.invariant.1 ∙ false_here c.args.positions p c.loop-position.position c.loop-position-test.true here in
     sym (c.search.invariant.1 ∙ failing_here t c.args.positions c.args.formulas.now c.search.place c.search-test.true c.loop-position.position found)
+
+pub search-preserved-then-is_never_false : goal.search-preserved-then-is_never_false
+search-preserved-then-is_never_false c =
+    let t = row_says c.args.words.now in
+    let p = t (get_or c.args.formulas.now c.search.place 0) in
+    let none = nothing_false c.args.positions 0 p (λ j le lt. true_from_at p 0 c.args.positions j (sym c.if-is_never_false.ensures) le lt) in
+    (c.search.invariant.0, c.search.invariant.1 ∙ failing_later t c.args.positions c.args.formulas.now c.search.place c.search-test.true none)
