@@ -1,9 +1,11 @@
 -- Where something stands in a list, by a test of likeness that is equality.
-use Rattle.std.proofs.Common.{◌≡◌, ℕ, ◌<◌, Bool, true, false, ltb, List, length, get_or, Some, None, sym, ap, ◌∙◌, subst, inl, inr, arith}
-use Rattle.std.specs.List.{slice_get, position_or_len}
+use Rattle.std.proofs.Common.{◌≡◌, ℕ, ◌+◌, ◌-◌, ◌<◌, ◌≤◌, Bool, true, false, ltb, List, length, take, drop, get_or, Some, None, Option, sym, ap, ◌∙◌, subst, inl, inr, arith}
+use Rattle.std.specs.List.{slice_get, position, position_or_len}
+use Rattle.std.specs.Option.{option_map}
 use Rattle.std.proofs.lemmas.Bool.{cases_Bool, cases_lt, cond-true, cond-false, lt-ltb, le-ltb, true≢false}
 use Rattle.std.proofs.lemmas.List.Quantifiers.{position-Some}
 use Rattle.std.proofs.lemmas.List.Sums.{position_or_len_is, fails_before_first}
+use Rattle.std.proofs.lemmas.List.{get_or-take, get_or-drop, length-take-le, length-drop, take_all}
 use Rattle.std.proofs.lemmas.Option.{slice_get-get_or}
 use Rattle.formulas.specs.Adding.{Distinct, place}
 use Rattle.formulas.proofs.Members.{some_same, some_not_none, nth_within}
@@ -56,6 +58,60 @@ module _ {X : Type 0} (eq : X → X → Bool) (tells : IsEquality eq) where
           | inl within ↦ some_not_none (sym (cond-true (ltb (position_or_len (λ y. eq y x) ys) (length ys)) _ _ (lt-ltb _ _ within)) ∙ found)
           | inr past ↦ true≢false (sym (passes k is) ∙ fails_before_first (λ y. eq y x) ys k x (omega (arith, nth_within ys k is)))
         ]
+
+-- where nothing passes, the search goes through the whole list
+past_all : {X : Type 0} (p : X → Bool) (xs : List X) → position p xs ≡ None → length xs ≤ position_or_len p xs
+past_all p xs none =
+    elim (cases_lt (position_or_len p xs) (length xs)) [
+      | inl within ↦ absurd (some_not_none (sym (cond-true (ltb (position_or_len p xs) (length xs)) _ _ (lt-ltb _ _ within)) ∙ none))
+      | inr past ↦ past
+    ]
+
+-- and the other way round: where the first that passes is known, it is found
+found_at : {X : Type 0} (p : X → Bool) (xs : List X) (i : ℕ) → i < length xs → position_or_len p xs ≡ i → position p xs ≡ Some i
+found_at p xs i within at = cond-true (ltb (position_or_len p xs) (length xs)) _ _ (lt-ltb _ _ (omega (arith, at, within))) ∙ ap Some at
+
+found_nowhere : {X : Type 0} (p : X → Bool) (xs : List X) → position_or_len p xs ≡ length xs → position p xs ≡ None
+found_nowhere p xs at = cond-false (ltb (position_or_len p xs) (length xs)) _ _ (le-ltb _ _ (omega (arith, at)))
+
+-- where none passes below a place, the first is found behind it
+module _ {X : Type 0} (p : X → Bool) (xs : List X) (start : ℕ) (d : X) (there : start ≤ length xs) (none : position p (take start xs) ≡ None) where
+  abbrev rest : List X
+  rest = drop start xs
+
+  fails_below : (k : ℕ) → k < start → p (get_or xs k d) ≡ false
+  fails_below k h = ap p (sym (get_or-take start xs k d h)) ∙ fails_before_first p (take start xs) k d (omega (arith, past_all p (take start xs) none, length-take-le start xs there))
+
+  at_rest : (k : ℕ) → start ≤ k → get_or xs k d ≡ get_or rest (k - start) d
+  at_rest k le = sym (get_or-drop start xs (k - start) d ∙ ap (λ j. get_or xs j d) (omega arith))
+
+  fails_up_to : (i : ℕ) → ((k : ℕ) → k < i → p (get_or rest k d) ≡ false) → (k : ℕ) → k < start + i → p (get_or xs k d) ≡ false
+  fails_up_to i fails k h =
+      elim (cases_lt k start) [
+        | inl l ↦ fails_below k l
+        | inr le ↦ ap p (at_rest k le) ∙ fails (k - start) (omega arith)
+      ]
+
+  long : start + length rest ≡ length xs
+  long = omega (arith, length-drop start xs, there)
+
+  position_behind : (o : Option ℕ) → position p rest ≡ o → position p xs ≡ option_map (λ k. start + k) o
+  position_behind None is =
+      found_nowhere p xs
+      (position_or_len_is p xs (length xs) d (omega arith)
+      (λ k h. fails_up_to (length rest) (λ j l. fails_before_first p rest j d (omega (arith, past_all p rest is))) k (omega (arith, long)))
+      (λ h. absurd (omega arith)))
+  position_behind (Some i) is =
+      let (inside, passes, fails) = position-Some p rest i d is in
+      found_at p xs (start + i) (omega (arith, long))
+      (position_or_len_is p xs (start + i) d (omega (arith, long)) (fails_up_to i fails)
+      (λ h. ap p (at_rest (start + i) (omega arith) ∙ ap (λ j. get_or rest j d) (omega arith)) ∙ passes))
+
+  -- the same, where what is behind is cut out of a list that is equal
+  pub position_cut : (ys : List X) → ys ≡ xs → (n : ℕ) → length ys ≤ start + n → (o : Option ℕ) → position p (take n (drop start ys)) ≡ o → position p xs ≡ option_map (λ k. start + k) o
+  position_cut ys same n all o is =
+      let whole : take n (drop start ys) ≡ rest = ap (λ zs. take n (drop start zs)) same ∙ take_all n rest (omega (arith, long, all, ap length same)) in
+      position_behind o (ap (position p) (sym whole) ∙ is)
 
 -- two tests that are both equality find the same place
 pub same_place : {X : Type 0} (e f : X → X → Bool) → IsEquality e → IsEquality f → (ys : List X) (x : X) → place e ys x ≡ place f ys x

@@ -1,6 +1,6 @@
 // One entry of a formula list: its kind, with the numbers of earlier entries as operands.
-ghost use Rattle.std.specs.Prelude.{◌≡◌};
-ghost use Rattle.formulas.specs.Entries.{asked, kind_numbered};
+ghost use Rattle.std.specs.Prelude.{◌≡◌, ℕ, ◌<◌, false};
+ghost use Rattle.formulas.specs.Entries.{asked, kind_numbered, placed};
 
 use refusals::Refusal;
 
@@ -64,6 +64,17 @@ impl Entry {
             Kind::Next if left_entered && right == 0 => Ok(Entry::Next(left)),
             Kind::Always if left_entered && right == 0 => Ok(Entry::Always(left)),
             _ => Err(Refusal::BadField),
+        }
+    }
+
+    // No lower number can be that of the entry: it stands behind its operands.
+    pub(crate) fn lowest(self) -> usize
+        ensures { (n : ℕ) → n < result → placed n self ≡ false }
+    {
+        match self {
+            Entry::False | Entry::Atom(_) => 0,
+            Entry::Implies(left, right) => usize::from(left.max(right)) + 1,
+            Entry::Next(part) | Entry::Always(part) => usize::from(part) + 1,
         }
     }
 }

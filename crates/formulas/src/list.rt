@@ -67,6 +67,8 @@ impl FormulaList {
         ensures distinct { Distinct (formulas_of self.new) }
     {
         let entry = Entry::asked_for(self.len(), kind, left, right)?;
-        self.table.enter(entry).ok_or(Refusal::FormulasFull)
+        self.table
+            .enter_from(entry.lowest(), entry)
+            .ok_or(Refusal::FormulasFull)
     }
 }

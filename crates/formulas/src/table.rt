@@ -1,5 +1,5 @@
 // A list whose memory is set aside once.
-ghost use Rattle.std.specs.Prelude.{◌≡◌, ◌<◌, ◌≤◌, [], length, None, IfOk, IfSome, nat_le};
+ghost use Rattle.std.specs.Prelude.{◌≡◌, ◌<◌, ◌≤◌, [], length, take, None, IfOk, IfSome, nat_le};
 ghost use Rattle.std.specs.List.{slice_get};
 ghost use Rattle.formulas.specs.Adding.{place, number_for, add_after};
 
@@ -70,13 +70,32 @@ impl<T: Copy, const MOST: u16> Table<T, MOST> {
     }
 }
 
+// The place of the first item that equals this one.
+fn first_equal<T: Copy + PartialEq>(items: &[T], item: T) -> Option<usize>
+    ensures number { result ≡ place T.eq items.now item }
+    ensures within { IfSome result (λ n. n < length items.now) }
+{
+    items.iter().position(|old| *old == item)
+}
+
 impl<T: Copy + PartialEq, const MOST: u16> Table<T, MOST> {
     // The number of the first item that equals this one.
     pub fn find(&self, item: T) -> Option<usize>
         ensures number { result ≡ place T.eq self.now item }
         ensures within { IfSome result (λ n. n < MOST) }
     {
-        self.items.iter().position(|old| *old == item)
+        self.find_from(0, item)
+    }
+
+    // The same, where no item below a number equals this one: those are not looked at.
+    fn find_from(&self, start: usize, item: T) -> Option<usize>
+        requires there { start ≤ length self.now }
+        requires none_below { place T.eq (take start self.now) item ≡ None }
+        ensures number { result ≡ place T.eq self.now item }
+        ensures within { IfSome result (λ n. n < MOST) }
+    {
+        let behind = first_equal(&self.as_slice()[start..], item)?;
+        Some(start + behind)
     }
 
     // The number of the first item that equals this one, which is added if there is none. None where the table is full.
@@ -84,7 +103,17 @@ impl<T: Copy + PartialEq, const MOST: u16> Table<T, MOST> {
         ensures number { result ≡ number_for MOST self.old (place T.eq self.old item) }
         ensures after { self.new ≡ add_after MOST self.old item (place T.eq self.old item) }
     {
-        match self.find(item) {
+        self.enter_from(0, item)
+    }
+
+    // The same, where no item below a number equals this one.
+    pub(crate) fn enter_from(&mut self, start: usize, item: T) -> Option<u16>
+        requires there { start ≤ length self.old }
+        requires none_below { place T.eq (take start self.old) item ≡ None }
+        ensures number { result ≡ number_for MOST self.old (place T.eq self.old item) }
+        ensures after { self.new ≡ add_after MOST self.old item (place T.eq self.old item) }
+    {
+        match self.find_from(start, item) {
             Some(old) => Some(old as u16),
             None => self.push(item),
         }
