@@ -1,7 +1,6 @@
 -- Gathering prime parts: what it keeps, what it adds, and that each part is listed once.
-use Rattle.std.proofs.Common.{◌≡◌, ℕ, ◌≤◌, ◌⊎◌, cond, List, [], ◌∷◌, ◌++◌, length, Some, None, Option, is_some, sym, refl, ◌∙◌, subst, inl, inr, arith}
+use Rattle.std.proofs.Common.{◌≡◌, ℕ, ◌⊎◌, cond, List, [], ◌∷◌, ◌++◌, length, Some, None, Option, is_some, refl, subst, inl, inr, arith}
 use Rattle.std.specs.List.{slice_get}
-use Rattle.std.proofs.lemmas.List.{length_push}
 use Rattle.logic.specs.Formula.{Formula, falsum, atom, implies, next, always}
 use Rattle.logic.specs.Same.{same}
 use Rattle.formulas.specs.Adding.{Distinct, Member, place}
@@ -19,21 +18,11 @@ add_both P ps A there new = by (place same ps A) refl
     by (Some i) found = there (i, place_is same same_tells ps A i found)
     by None found = new (λ is. none_there same same_tells ps A found is.0 is.1)
 
--- a formula that is in the list is not added, and any other stands at the end
-pub add_old : (ps : List Formula) (A : Formula) → Member ps A → add ps A ≡ ps
-add_old ps A is = add_both (λ qs. qs ≡ ps) ps A (λ _. refl) (λ none. absurd (none is))
-
-pub add_new : (ps : List Formula) (A : Formula) → (Member ps A → ⊥) → add ps A ≡ ps ++ A ∷ []
-add_new ps A none = add_both (λ qs. qs ≡ ps ++ A ∷ []) ps A (λ is. absurd (none is)) (λ _. refl)
-
 pub add_has : (ps : List Formula) (A : Formula) → Member (add ps A) A
 add_has ps A = add_both (λ qs. Member qs A) ps A (λ is. is) (λ _. (length ps, nth_push ps A))
 
 pub add_keeps : (ps : List Formula) (A X : Formula) (k : ℕ) → slice_get ps k ≡ Some X → slice_get (add ps A) k ≡ Some X
 add_keeps ps A X k is = add_both (λ qs. slice_get qs k ≡ Some X) ps A (λ _. is) (λ _. nth_stays ps A k X is)
-
-pub add_longer : (ps : List Formula) (A : Formula) → length ps ≤ length (add ps A)
-add_longer ps A = add_both (λ qs. length ps ≤ length qs) ps A (λ _. omega arith) (λ _. omega (arith, length_push ps A))
 
 pub add_only : (ps : List Formula) (A X : Formula) → Member (add ps A) X → Member ps X ⊎ (A ≡ X)
 add_only ps A X = add_both (λ qs. Member qs X → Member ps X ⊎ (A ≡ X)) ps A (λ _ is. inl is) (λ _ is. elim (nth_pushed ps A is.0 X is.1) [
@@ -58,16 +47,8 @@ gathered_keeping P (always A) step ps h = step ps (always A) refl h
 pub gathered_keeps : (ps : List Formula) (A X : Formula) (k : ℕ) → slice_get ps k ≡ Some X → slice_get (gathered ps A) k ≡ Some X
 gathered_keeps ps A X k = gathered_keeping (λ qs. slice_get qs k ≡ Some X) A (λ qs B p is. add_keeps qs B X k is) ps
 
-pub gathered_longer : (ps : List Formula) (A : Formula) → length ps ≤ length (gathered ps A)
-gathered_longer ps A = gathered_keeping (λ qs. length ps ≤ length qs) A (λ qs B p le. omega (arith, add_longer qs B)) ps (omega arith)
-
 pub gathered_distinct : (ps : List Formula) (A : Formula) → Distinct ps → Distinct (gathered ps A)
 gathered_distinct ps A = gathered_keeping Distinct A (λ qs B p distinct. add_distinct qs B distinct) ps
-
--- nothing is added where all prime parts are there
-pub gathered_old : (ps : List Formula) (A : Formula) → ((X : Formula) → PrimePart A X → Member ps X) → gathered ps A ≡ ps
-gathered_old ps A there =
-    gathered_keeping (λ qs. qs ≡ ps) A (λ qs B p is. add_old qs B (subst (λ (rs : List Formula). Member rs B) (sym is) (there B p)) ∙ is) ps refl
 
 -- each prime part is there afterwards, and nothing else is new
 pub gathered_has : (ps : List Formula) (A X : Formula) → PrimePart A X → Member (gathered ps A) X

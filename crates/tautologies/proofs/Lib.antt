@@ -1,6 +1,9 @@
 mod Marks
-mod Plans
 mod Chosen
+mod Counting
 mod Choices
-mod Blocks
+mod Filling
+mod Passing
+mod Plans
+mod Told
 mod Verdicts

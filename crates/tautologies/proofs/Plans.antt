@@ -1,128 +1,144 @@
--- What following the steps of the marked entries comes to.
-use Rattle.std.proofs.Common.{◌≡◌, ℕ, zero, suc, ◌+◌, ◌<◌, ◌≤◌, Bool, true, false, not, ◌||◌, List, [], ◌∷◌, ◌++◌, drop, length, get_or, Some, ltb, sym, refl, ap, ◌∙◌, subst, inl, inr, arith, drop-cons, length-set}
-use Rattle.std.proofs.lemmas.Bool.{cases_Bool, and_parts, ltb-true, cond_both, cond-true, cond-false}
+-- How a plan grows, entry by entry.
+use Rattle.std.proofs.Common.{◌≡◌, ℕ, ◌+◌, ◌<◌, ◌≤◌, List, [], ◌∷◌, ◌++◌, length, get_or, set, ltb, Bool, true, Some, sym, ap, ap₂, ◌∙◌, subst, inl, inr, arith, get_or-set_other, get_or-set_same, length-set}
 use Rattle.std.specs.List.{slice_get}
-use Rattle.std.proofs.lemmas.List.{length-append, append-nil}
+use Rattle.std.proofs.lemmas.Bool.{cases_eq, and_parts, ltb-true}
+use Rattle.std.proofs.lemmas.List.{length_push}
 use Rattle.formulas.specs.declared.entry.Entry.{Entry}
-use Rattle.formulas.specs.declared.entry.Entry.TheVariants.{False, Atom, Implies, Next, Always}
-use Rattle.formulas.specs.Entries.{placed, Lower}
-use Rattle.formulas.proofs.Members.{every_push, some_not_none}
-use Rattle.rows.specs.Row.{bit, row_of}
+use Rattle.formulas.specs.declared.entry.Entry.TheVariants.{False, Implies}
+use Rattle.formulas.specs.Entries.{placed}
+use Rattle.formulas.proofs.Members.{some_not_none, nth_within, nth_append_left, nth_push, nth_pushed}
 use Rattle.tautologies.specs.declared.step.Step.{Step}
-use Rattle.tautologies.specs.Planning.{step_of, steps_below, row_numbered, stepped, followed, RowsThere}
+use Rattle.tautologies.specs.Gathering.{Entered, Gathered, Marked}
+use Rattle.tautologies.proofs.Marks.{formula_is}
+use Rattle.tautologies.specs.Planning.{place_of, LowerSteps, Planned}
 
--- ---- the steps, entry by entry
+-- entry n is no implication
+abbrev pub Simple : List Entry → ℕ → Type 0
+Simple es n = (a b : ℕ) → get_or es n False ≡ Implies a b → ⊥
 
-step_of_length : (n : ℕ) (e : Entry) → length (step_of n e) ≤ 1
-step_of_length n False = omega arith
-step_of_length n (Atom a) = omega arith
-step_of_length n (Implies a b) = omega arith
-step_of_length n (Next a) = omega arith
-step_of_length n (Always a) = omega arith
+-- the plan has the steps of the marked implications below a number
+pub record Going (es : List Entry) (seen : List Bool) (parts : List ℕ) (places : List ℕ) (steps : List Step) (number : ℕ) : Type 0 where
+  pub long : length places ≡ 1024
+  pub few : length steps ≤ number
+  pub lower : LowerSteps steps
+  pub within : (n : ℕ) → Marked seen n → place_of places n < 13 + length steps
+  pub part_at : (k n : ℕ) → slice_get parts k ≡ Some n → Simple es n → place_of places n ≡ k
+  pub false_at : (n : ℕ) → Marked seen n → get_or es n False ≡ False → place_of places n ≡ 12
+  pub step_at : (n a b : ℕ) → n < number → Marked seen n → get_or es n False ≡ Implies a b
+      → (j : ℕ) × (place_of places n ≡ 13 + j) × (slice_get steps j ≡ Some (record { left = place_of places a; right = place_of places b }))
 
--- there are no more steps than entries
-pub steps_few : (es : List Entry) (seen : List Bool) (n : ℕ) → length (steps_below es seen n) ≤ n
-unfolding steps_below
-steps_few es seen zero = omega arith
-steps_few es seen (suc n) =
-    cond_both (get_or seen n false) (step_of n (get_or es n False)) [] (λ (ss : List Step). length (steps_below es seen n ++ ss) ≤ suc n)
-    (λ _. omega (arith, steps_few es seen n, step_of_length n (get_or es n False), length-append (steps_below es seen n) (step_of n (get_or es n False))))
-    (λ _. omega (arith, steps_few es seen n, length-append (steps_below es seen n) ([])))
+module _ (es : List Entry) (entered : Entered es) (seen : List Bool) (parts : List ℕ) (g : Gathered es seen parts) (places : List ℕ) (steps : List Step) where
+  -- at first there are no steps, and the places are those of the parts, or that of false
+  pub started : steps ≡ [] → length places ≡ 1024 → ((k n : ℕ) → slice_get parts k ≡ Some n → place_of places n ≡ k)
+      → ((n : ℕ) → ((k : ℕ) → slice_get parts k ≡ Some n → ⊥) → place_of places n ≡ 12) → ((n : ℕ) → place_of places n ≤ 12) → Going es seen parts places steps 0
+  started none long its others small = record {
+    long = long;
+    few = omega (arith, ap (length {A = Step}) none);
+    lower = λ j s it. absurd (some_not_none (sym it ∙ ap (λ (ss : List Step). slice_get ss j) none));
+    within = λ n m. omega (arith, small n);
+    part_at = λ k n it simple. its k n it;
+    false_at = λ n m is. others n (λ k it. (g.met k n it).1 (formula_is es entered n (g.entered n m) False is));
+    step_at = λ n a b before m is. absurd (omega arith);
+  }
 
-pub steps_none : (es : List Entry) (seen : List Bool) → steps_below es seen 0 ≡ []
-unfolding steps_below
-steps_none es seen = refl
+  -- an entry without a step adds nothing
+  pub passed : (n : ℕ) → (Marked seen n → Simple es n) → Going es seen parts places steps n → Going es seen parts places steps (n + 1)
+  passed n simple so = record {
+    long = so.long;
+    few = omega (arith, so.few);
+    lower = so.lower;
+    within = so.within;
+    part_at = so.part_at;
+    false_at = so.false_at;
+    step_at = λ m a b before marked is. elim (cases_eq m n) [
+      | inl e ↦ absurd (simple (subst (Marked seen) e marked) a b (subst (λ (k : ℕ). get_or es k False ≡ Implies a b) e is))
+      | inr ne ↦ so.step_at m a b (omega (arith, ne)) marked is
+    ];
+  }
 
-pub steps_marked : (es : List Entry) (seen : List Bool) (n : ℕ) {e : Entry} → get_or seen n false ≡ true → get_or es n False ≡ e → steps_below es seen n ++ step_of n e ≡ steps_below es seen (n + 1)
-unfolding steps_below
-steps_marked es seen n m is =
-    let e : suc n ≡ n + 1 = omega arith in
-    ap (λ (ss : List Step). steps_below es seen n ++ ss) (sym (cond-true (get_or seen n false) (step_of n (get_or es n False)) [] m ∙ ap (step_of n) is))
-    ∙ ap (steps_below es seen) e
+  -- the same, of a plan that is equal
+  pub same : (n : ℕ) → (qs : List ℕ) (ts : List Step) → qs ≡ places → ts ≡ steps → Going es seen parts places steps n → Going es seen parts qs ts n
+  same n qs ts p s so = subst (λ (xs : List ℕ). Going es seen parts xs ts n) (sym p) (subst (λ (ys : List Step). Going es seen parts places ys n) (sym s) so)
 
-pub steps_unmarked : (es : List Entry) (seen : List Bool) (n : ℕ) → get_or seen n false ≡ false → steps_below es seen n ≡ steps_below es seen (n + 1)
-unfolding steps_below
-steps_unmarked es seen n m =
-    let e : suc n ≡ n + 1 = omega arith in
-    sym (append-nil (steps_below es seen n))
-    ∙ ap (λ (ss : List Step). steps_below es seen n ++ ss) (sym (cond-false (get_or seen n false) (step_of n (get_or es n False)) [] m))
-    ∙ ap (steps_below es seen) e
+  -- all entries passed are a plan
+  pub whole : (n : ℕ) → length es ≤ n → n ≤ 1024 → Going es seen parts places steps n → Planned es seen parts steps places
+  whole n all few so = record {
+    long = so.long;
+    few = omega (arith, so.few);
+    lower = so.lower;
+    within = so.within;
+    part_at = so.part_at;
+    false_at = so.false_at;
+    step_at = λ m a b marked is. so.step_at m a b (omega (arith, g.entered m marked)) marked is;
+  }
 
-no_step : (n : ℕ) (e : Entry) → ((a b : ℕ) → e ≡ Implies a b → ⊥) → step_of n e ≡ []
-no_step n False none = refl
-no_step n (Atom a) none = refl
-no_step n (Implies a b) none = absurd (none a b refl)
-no_step n (Next a) none = refl
-no_step n (Always a) none = refl
+  -- an implication adds its step
+  module _ (n a b : ℕ) (marked : Marked seen n) (is : get_or es n False ≡ Implies a b) (so : Going es seen parts places steps n) where
+    abbrev own : Step
+    own = record { left = place_of places a; right = place_of places b }
 
-pub steps_other : (es : List Entry) (seen : List Bool) (n : ℕ) → get_or seen n false ≡ true → ((a b : ℕ) → get_or es n False ≡ Implies a b → ⊥) → steps_below es seen n ≡ steps_below es seen (n + 1)
-steps_other es seen n m none =
-    sym (append-nil (steps_below es seen n)) ∙ ap (λ (ss : List Step). steps_below es seen n ++ ss) (sym (no_step n (get_or es n False) none))
-    ∙ steps_marked es seen n m refl
+    abbrev at : ℕ
+    at = 13 + length steps
 
--- each step is between rows that are there
-module _ (es : List Entry) (seen : List Bool) (lower : Lower es) (few : length es ≤ 1024) where
-  within_next : (n : ℕ) → n < length es → ((k : ℕ) (s : Step) → slice_get (steps_below es seen n) k ≡ Some s → RowsThere s 1024)
-      → (k : ℕ) (s : Step) → slice_get (steps_below es seen (n + 1)) k ≡ Some s → RowsThere s 1024
-  within_next n there before = elim (cases_Bool (get_or seen n false)) [
-    | inl m ↦ by m (get_or es n False) refl
-    | inr none ↦ same (steps_unmarked es seen n none)
-  ]
-    where
-      same : {ss : List Step} → steps_below es seen n ≡ ss → (k : ℕ) (s : Step) → slice_get ss k ≡ Some s → RowsThere s 1024
-      same is = subst (λ (qs : List Step). (k : ℕ) (s : Step) → slice_get qs k ≡ Some s → RowsThere s 1024) is before
+    abbrev more : List ℕ
+    more = set places n at
 
-      by : get_or seen n false ≡ true → (e : Entry) → get_or es n False ≡ e → (k : ℕ) (s : Step) → slice_get (steps_below es seen (n + 1)) k ≡ Some s → RowsThere s 1024
-      by m False is = same (steps_other es seen n m (λ a b i. cc))
-      by m (Atom c) is = same (steps_other es seen n m (λ a b i. cc))
-      by m (Implies c d) is =
-          let operands = and_parts (ltb c n) (ltb d n) (subst (λ (e : Entry). placed n e ≡ true) is (lower n there)) in
-          let left = ltb-true c n operands.0 in
-          let right = ltb-true d n operands.1 in
-          let step : Step = record { number = n; left = c; right = d } in
-          subst (λ (qs : List Step). (k : ℕ) (s : Step) → slice_get qs k ≡ Some s → RowsThere s 1024) (steps_marked es seen n m is)
-          (every_push (λ (s : Step). RowsThere s 1024) (steps_below es seen n) step before (record { number = omega arith; left = omega arith; right = omega arith }))
-      by m (Next c) is = same (steps_other es seen n m (λ a b i. cc))
-      by m (Always c) is = same (steps_other es seen n m (λ a b i. cc))
+    operands : (c d m : ℕ) → m < length es → get_or es m False ≡ Implies c d → (c < m) × (d < m)
+    operands c d m h it =
+        let both = and_parts (ltb c m) (ltb d m) (subst (λ (e : Entry). placed m e ≡ true) it (entered.lower m h)) in
+        (ltb-true c m both.0, ltb-true d m both.1)
 
-  pub steps_within : (n : ℕ) → n ≤ length es → (k : ℕ) (s : Step) → slice_get (steps_below es seen n) k ≡ Some s → RowsThere s 1024
-  steps_within zero le =
-      subst (λ (qs : List Step). (k : ℕ) (s : Step) → slice_get qs k ≡ Some s → RowsThere s 1024) (sym (steps_none es seen)) (λ k s is. absurd (some_not_none (sym is)))
-  steps_within (suc n) le =
-      let more : n + 1 ≡ suc n = omega arith in
-      subst (λ (i : ℕ). (k : ℕ) (s : Step) → slice_get (steps_below es seen i) k ≡ Some s → RowsThere s 1024) more (within_next n (omega arith) (steps_within n (omega arith)))
+    there : n < length es
+    there = g.entered n marked
 
--- ---- following
+    room : n < length places
+    room = omega (arith, so.long, there, entered.within)
 
--- the step at a place is followed by those behind it
-pub followed_from : (ss : List Step) (k : ℕ) (d : Step) (rows : List (List ℕ)) → k < length ss → followed (drop k ss) rows ≡ followed (drop (k + 1) ss) (stepped (get_or ss k d) rows)
-unfolding followed
-followed_from ss k d rows h =
-    let e : suc k ≡ k + 1 = omega arith in
-    ap (λ (left : List Step). followed left rows) (drop-cons ss k d h) ∙ ap (λ (n : ℕ). followed (drop n ss) (stepped (get_or ss k d) rows)) e
+    here : place_of more n ≡ at
+    here = get_or-set_same places n at 12 room
 
-pub followed_all : (ss : List Step) (k : ℕ) (rows : List (List ℕ)) → length ss ≤ k → rows ≡ followed (drop k ss) rows
-unfolding followed
-followed_all [] zero rows h = refl
-followed_all [] (suc k) rows h = refl
-followed_all (s ∷ ss) zero rows h = absurd (omega arith)
-followed_all (s ∷ ss) (suc k) rows h = followed_all ss k rows (omega arith)
+    other : (m : ℕ) → (m ≡ n → ⊥) → place_of more m ≡ place_of places m
+    other m ne = get_or-set_other places n m at 12 ne
 
-pub followed_append : (ss ts : List Step) (rows : List (List ℕ)) → followed (ss ++ ts) rows ≡ followed ts (followed ss rows)
-unfolding followed
-followed_append [] ts rows = refl
-followed_append (s ∷ ss) ts rows = followed_append ss ts (stepped s rows)
+    -- of entries before it nothing has moved
+    step_same : (c d : ℕ) → c < n → d < n → ◌≡◌ {A = Step} (record { left = place_of places c; right = place_of places d }) (record { left = place_of more c; right = place_of more d })
+    step_same c d lc ld = λ i. record { left = sym (other c (λ e. omega arith)) i; right = sym (other d (λ e. omega arith)) i }
 
-pub followed_none : (rows : List (List ℕ)) → followed [] rows ≡ rows
-unfolding followed
-followed_none rows = refl
-
-pub followed_one : (s : Step) (rows : List (List ℕ)) → followed (s ∷ []) rows ≡ stepped s rows
-unfolding followed
-followed_one s rows = refl
-
--- there are as many rows as before
-pub followed_length : (ss : List Step) (rows : List (List ℕ)) → length (followed ss rows) ≡ length rows
-unfolding followed
-followed_length [] rows = refl
-followed_length (s ∷ ss) rows = followed_length ss (stepped s rows) ∙ length-set rows s.number (row_of (λ i. not (bit (row_numbered rows s.left) i) || bit (row_numbered rows s.right) i))
+    pub added : Going es seen parts more (steps ++ own ∷ []) (n + 1)
+    added =
+        let low = operands a b n there is in
+        let both = g.closed n a b marked is in
+        let long : length (steps ++ own ∷ []) ≡ length steps + 1 = length_push steps own in
+        record {
+          long = length-set places n at ∙ so.long;
+          few = omega (arith, so.few, long);
+          lower = λ j s it. elim (nth_pushed steps own j s it) [
+            | inl old ↦ so.lower j s old
+            | inr (last, same) ↦
+                subst (λ (t : Step). (t.left < 13 + j) × (t.right < 13 + j)) same
+                (omega (arith, so.within a both.0, last), omega (arith, so.within b both.1, last))
+          ];
+          within = λ m mm. elim (cases_eq m n) [
+            | inl e ↦ omega (arith, long, subst (λ (k : ℕ). place_of more k ≡ at) (sym e) here)
+            | inr ne ↦ omega (arith, long, other m ne, so.within m mm)
+          ];
+          part_at = λ k m it simple. other m (λ e. simple a b (subst (λ (i : ℕ). get_or es i False ≡ Implies a b) (sym e) is)) ∙ so.part_at k m it simple;
+          false_at = λ m mm it. other m (λ e. let wrong : ◌≡◌ {A = Entry} False (Implies a b) = sym it ∙ ap (λ (i : ℕ). get_or es i False) e ∙ is in cc) ∙ so.false_at m mm it;
+          step_at = λ m c d before mm it. elim (cases_eq m n) [
+            | inl e ↦
+                let same : ◌≡◌ {A = Entry} (Implies a b) (Implies c d) = sym is ∙ ap (λ (i : ℕ). get_or es i False) (sym e) ∙ it in
+                let left : a ≡ c = cc in
+                let right : b ≡ d = cc in (
+                  length steps,
+                  ap (place_of more) e ∙ here,
+                  nth_push steps own ∙ ap Some (step_same a b low.0 low.1 ∙ ap₂ (λ x y. record { left = place_of more x; right = place_of more y }) left right),
+                )
+            | inr ne ↦
+                let (j, placed_at, has) = so.step_at m c d (omega (arith, ne)) mm it in
+                let its = operands c d m (g.entered m mm) it in (
+                  j,
+                  other m ne ∙ placed_at,
+                  nth_append_left steps (own ∷ []) j (nth_within steps j has) ∙ has ∙ ap Some (step_same c d (omega (arith, its, before)) (omega (arith, its, before))),
+                )
+          ];
+        }

@@ -1,38 +1,41 @@
--- The steps by which the rows of implications are made, and what following them does.
-use Rattle.std.specs.Prelude.{ℕ, zero, suc, ◌<◌, Bool, false, cond, not, ◌||◌, List, [], ◌∷◌, ◌++◌, slice_index_or, slice_set}
+-- A plan, what its steps come to under a choice, and the rows that are made by them.
+use Rattle.std.specs.Prelude.{◌≡◌, ℕ, ◌+◌, ◌-◌, ◌^◌, ◌<◌, ◌≤◌, Bool, false, not, ◌||◌, List, [], length, Some, slice_index_or, bit_or}
+use Rattle.std.specs.List.{slice_get}
 use Rattle.formulas.specs.declared.entry.Entry.{Entry}
-use Rattle.formulas.specs.declared.entry.Entry.TheVariants.{False, Atom, Implies, Next, Always}
-use Rattle.rows.specs.Row.{bit, row_of}
+use Rattle.formulas.specs.declared.entry.Entry.TheVariants.{False, Implies}
+use Rattle.rows.specs.Row.{testBit}
 use Rattle.tautologies.specs.declared.step.Step.{Step}
+use Rattle.tautologies.specs.Gathering.{Marked}
 
--- the step of an entry, if it is an implication
-abbrev pub step_of : ℕ → Entry → List Step
-step_of n False = []
-step_of n (Atom a) = []
-step_of n (Implies a b) = record { number = n; left = a; right = b } ∷ []
-step_of n (Next a) = []
-step_of n (Always a) = []
+-- the place of an entry's row
+abbrev pub place_of : List ℕ → ℕ → ℕ
+place_of places n = slice_index_or places n 12
 
--- the steps of the marked entries below a number, by rising numbers
-unfoldable pub steps_below : List Entry → List Bool → ℕ → List Step
-steps_below es seen zero = []
-steps_below es seen (suc n) = steps_below es seen n ++ cond (slice_index_or seen n false) (step_of n (slice_index_or es n False)) []
+-- each step is between rows at lower places than its own, which is 13 places behind its number
+abbrev pub LowerSteps : List Step → Type 0
+LowerSteps steps = (j : ℕ) (s : Step) → slice_get steps j ≡ Some s → (s.left < 13 + j) × (s.right < 13 + j)
 
--- rows by their numbers
-abbrev pub row_numbered : List (List ℕ) → ℕ → List ℕ
-row_numbered rows n = slice_index_or rows n []
+-- the rows of prime parts stand at their places among the parts, that of false at place 12, and that of an implication where its step makes it of its operands' rows
+pub record Planned (es : List Entry) (seen : List Bool) (parts : List ℕ) (steps : List Step) (places : List ℕ) : Type 0 where
+  pub long : length places ≡ 1024
+  pub few : length steps ≤ 1024
+  pub lower : LowerSteps steps
+  pub within : (n : ℕ) → Marked seen n → place_of places n < 13 + length steps
+  pub part_at : (k n : ℕ) → slice_get parts k ≡ Some n → ((a b : ℕ) → slice_index_or es n False ≡ Implies a b → ⊥) → place_of places n ≡ k
+  pub false_at : (n : ℕ) → Marked seen n → slice_index_or es n False ≡ False → place_of places n ≡ 12
+  pub step_at : (n a b : ℕ) → Marked seen n → slice_index_or es n False ≡ Implies a b
+      → (j : ℕ) × (place_of places n ≡ 13 + j) × (slice_get steps j ≡ Some (record { left = place_of places a; right = place_of places b }))
 
--- one step: the row of an implication comes of those of its operands
-abbrev pub stepped : Step → List (List ℕ) → List (List ℕ)
-stepped s rows = slice_set rows s.number (row_of (λ i. not (bit (row_numbered rows s.left) i) || bit (row_numbered rows s.right) i))
+-- under the choice with a number, the truths at places: those of the parts are the number's bits, and those of implications come by the steps
+pub record Values (steps : List Step) (c : ℕ) (f : ℕ → Bool) : Type 0 where
+  pub part : (k : ℕ) → k < 12 → f k ≡ testBit c k
+  pub none : f 12 ≡ false
+  pub step : (j : ℕ) (s : Step) → slice_get steps j ≡ Some s → f (13 + j) ≡ (f s.right || not (f s.left))
 
--- and all of them, one after the other
-unfoldable pub followed : List Step → List (List ℕ) → List (List ℕ)
-followed [] rows = rows
-followed (s ∷ ss) rows = followed ss (stepped s rows)
+-- a word of the row at a place
+abbrev pub word_at : List (List ℕ) → ℕ → ℕ → ℕ
+word_at rows p w = slice_index_or (slice_index_or rows p []) w 0
 
--- its rows are there
-pub record RowsThere (s : Step) (rows : ℕ) : Type 0 where
-  pub number : s.number < rows
-  pub left : s.left < rows
-  pub right : s.right < rows
+-- the words of a step's row come of those of its operands' rows
+abbrev pub Made : List (List ℕ) → ℕ → ℕ → Step → Type 0
+Made rows words j s = (w : ℕ) → w < words → word_at rows (13 + j) w ≡ bit_or (word_at rows s.right w) (2 ^ 64 - 1 - word_at rows s.left w)

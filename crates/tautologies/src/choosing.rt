@@ -1,10 +1,6 @@
-// Rows of choices of truth: which of 256 choices, in their order by number, make a part true.
-ghost use Rattle.std.specs.Prelude.{◌≡◌, ◌+◌, ◌*◌, ◌<◌};
-ghost use Rattle.rows.specs.Row.{pack, testBit};
-ghost use Rattle.tautologies.specs.Choosing.{choice_row};
-
-use rows::{Row, WORDS};
-use std::array;
+// Words of choices of truth: which of 64 choices, in their order by number, make a part true.
+ghost use Rattle.std.specs.Prelude.{◌≡◌, ◌<◌};
+ghost use Rattle.tautologies.specs.Choosing.{choice_word_of};
 
 // Within a word, the places of the numbers that have bit 0, and so on.
 const WITHIN_WORDS: [u64; 6] = [
@@ -17,9 +13,9 @@ const WITHIN_WORDS: [u64; 6] = [
 ];
 
 // Bit `part` of each of the 64 numbers from 64 * word on.
-fn choice_word(word: usize, part: usize) -> u64
+pub(crate) fn choice_word(word: usize, part: usize) -> u64
     requires { part < 12 }
-    ensures { result ≡ pack 64 (λ i. testBit (64 * word + i) part) }
+    ensures { result ≡ choice_word_of word part }
 {
     if part < WITHIN_WORDS.len() {
         WITHIN_WORDS[part]
@@ -28,13 +24,4 @@ fn choice_word(word: usize, part: usize) -> u64
     } else {
         0
     }
-}
-
-// Bit `part` of each of the 256 numbers in a block.
-pub(crate) fn choices(block: usize, part: usize) -> Row
-    requires few { part < 12 }
-    requires there { block < 16 }
-    ensures { result ≡ choice_row block part }
-{
-    array::from_fn(|index| choice_word(WORDS * block + index, part))
 }

@@ -1,23 +1,36 @@
-// The rows of a formula under all choices of truth for its prime parts, in blocks of 256 choices.
-ghost use Rattle.std.specs.Prelude.{◌≡◌, ℕ, ◌*◌, ◌^◌, ◌<◌, ◌≤◌, ◌≢◌, ◌↔◌, IsTrue, Some, length};
+// A formula under all choices of truth for its prime parts, in passes of 1,024 choices.
+ghost use Rattle.std.specs.Prelude.{◌≡◌, ℕ, ◌+◌, ◌-◌, ◌*◌, ◌^◌, ◌<◌, ◌≤◌, ◌↔◌, Bool, true, false, IsTrue, MatchBool, Some, length, slice_index_or, bit_or};
 ghost use Rattle.std.specs.List.{slice_get};
-ghost use Rattle.formulas.specs.Adding.{Distinct};
 ghost use Rattle.formulas.specs.Decode.{formula_at};
 ghost use Rattle.calculus.specs.Tautology.{Tautology};
 ghost use Rattle.tautologies.specs.Gathering.{Entered, Gathered, Marked};
-ghost use Rattle.tautologies.specs.Planning.{RowsThere, followed, row_numbered};
-ghost use Rattle.tautologies.specs.Choosing.{choice_row};
-ghost use Rattle.tautologies.specs.declared.step.Step.{Step};
+ghost use Rattle.tautologies.specs.Planning.{LowerSteps, Values, Made, word_at};
+ghost use Rattle.tautologies.specs.Choosing.{choice_word_of};
 
 use crate::ENTRIES;
-use crate::choosing::choices;
-use crate::planning::plan;
+use crate::choosing::choice_word;
+use crate::gathering::PARTS;
+use crate::planning::{FIRST_STEP, make_plan};
 use crate::step::Step;
 use formulas::Entry;
-use rows::{EMPTY, Row, implies_throughout, is_full};
+use std::array;
 
-// A pair of blocks has all choices for so many parts.
-const PAIR_PARTS: usize = 9;
+// A row has so many words in a pass: with fewer, a step often waits for the row that the one before it wrote, and with more, rows
+// are far apart in memory.
+const WORDS: usize = 16;
+
+// The row of one formula under the choices of a pass.
+type Wide = [u64; WORDS];
+
+// A pass has all choices for so many parts.
+const PASS_PARTS: usize = 10;
+
+// Rows for a formula of few steps, of some, and for any.
+const FEW_ROWS: usize = 64;
+
+const SOME_ROWS: usize = 256;
+
+const ALL_ROWS: usize = FIRST_STEP + ENTRIES;
 
 // Whether the formula of an entry is true under every choice of truth for its prime parts, which are gathered.
 pub(crate) fn true_everywhere(
@@ -32,62 +45,99 @@ pub(crate) fn true_everywhere(
     requires few { length parts.now ≤ 12 }
     ensures { IsTrue result ↔ Tautology (formula_at entries.now number) }
 {
-    let steps = plan(entries, seen);
-    let mut even = [EMPTY; ENTRIES];
-    let mut odd = [EMPTY; ENTRIES];
-    let place = usize::from(number);
-    for pair in 0..pairs(parts.len()) {
-        choose(2 * pair, parts, &mut even);
-        choose(2 * pair + 1, parts, &mut odd);
-        follow(steps.as_slice(), &mut even, &mut odd);
-        if !is_full(even[place]) || !is_full(odd[place]) {
+    let plan = make_plan(entries, seen, parts);
+    let steps = plan.steps.as_slice();
+    let place = usize::from(plan.places[usize::from(number)]);
+    // Rows are emptied at each call, so that not many more are taken than are needed.
+    if FIRST_STEP + steps.len() <= FEW_ROWS {
+        is_true_at::<FEW_ROWS>(steps, place, parts.len())
+    } else if FIRST_STEP + steps.len() <= SOME_ROWS {
+        is_true_at::<SOME_ROWS>(steps, place, parts.len())
+    } else {
+        is_true_at::<ALL_ROWS>(steps, place, parts.len())
+    }
+}
+
+// Whether the row at a place is full under all choices for so many parts.
+fn is_true_at<const ROWS: usize>(steps: &[Step], place: usize, parts: usize) -> bool
+    requires enough { ROWS ≤ 2048 }
+    requires room { 13 + length steps.now ≤ ROWS }
+    requires lower { LowerSteps steps.now }
+    requires there { place < 13 + length steps.now }
+    requires few { parts ≤ 12 }
+    ensures { MatchBool result
+        ((c : ℕ) → c < 2 ^ parts → (f : ℕ → Bool) × Values steps.now c f × (f place ≡ true))
+        ((c : ℕ) × (f : ℕ → Bool) × Values steps.now c f × (f place ≡ false)) }
+{
+    let mut rows = [[0; WORDS]; ROWS];
+    for pass in 0..passes(parts) {
+        choose(WORDS * pass, &mut rows);
+        follow(steps, &mut rows);
+        if !is_full(&rows[place]) {
             return false;
         }
     }
     true
 }
 
-// How many pairs of blocks have all choices for so many parts.
-fn pairs(parts: usize) -> usize
+// How many passes have all choices for so many parts.
+fn passes(parts: usize) -> usize
     requires { parts ≤ 12 }
-    ensures few { result ≤ 8 }
-    ensures all { 2 ^ parts ≤ 512 * result }
+    ensures few { result ≤ 4 }
+    ensures all { 2 ^ parts ≤ 1024 * result }
 {
-    if parts <= PAIR_PARTS {
+    if parts <= PASS_PARTS {
         1
     } else {
-        1 << (parts - PAIR_PARTS)
+        1 << (parts - PASS_PARTS)
     }
 }
 
-// Writes the rows of the parts in a block.
-fn choose(block: usize, parts: &[u16], rows: &mut [Row; ENTRIES])
-    requires there { block < 16 }
-    requires few { length parts.now ≤ 12 }
-    requires within { (k n : ℕ) → slice_get parts.now k ≡ Some n → n < 1024 }
-    requires once { Distinct parts.now }
-    ensures parts { (k n : ℕ) → slice_get parts.now k ≡ Some n → row_numbered rows.new n ≡ choice_row block k }
-    ensures others { (n : ℕ) → ((k : ℕ) → slice_get parts.now k ≢ Some n) → row_numbered rows.new n ≡ row_numbered rows.old n }
+// Writes the rows of the parts, from a word of choices on.
+fn choose<const ROWS: usize>(first: usize, rows: &mut [Wide; ROWS])
+    requires room { 13 ≤ ROWS }
+    requires within { first + 16 ≤ 1024 }
+    ensures parts { (k w : ℕ) → k < 12 → w < 16 → word_at rows.new k w ≡ choice_word_of (first + w) k }
+    ensures others { (p w : ℕ) → 12 ≤ p → word_at rows.new p w ≡ word_at rows.old p w }
 {
-    for (place, number) in parts.iter().enumerate() {
-        rows[usize::from(*number)] = choices(block, place);
+    for part in 0..PARTS {
+        rows[part] = choices(first, part);
     }
 }
 
-// Makes the rows of implications in two blocks, step by step.
-// Two at once, since a step often waits for the row that the one before it wrote: the other block's is made meanwhile.
-fn follow(steps: &[Step], even: &mut [Row; ENTRIES], odd: &mut [Row; ENTRIES])
-    requires { (k : ℕ) (s : Step) → slice_get steps.now k ≡ Some s → RowsThere s 1024 }
-    ensures even { even.new ≡ followed steps.now even.old }
-    ensures odd { odd.new ≡ followed steps.now odd.old }
+// The row of a part, from a word of choices on.
+fn choices(first: usize, part: usize) -> Wide
+    requires few { part < 12 }
+    requires within { first + 16 ≤ 1024 }
+    ensures { (w : ℕ) → w < 16 → slice_index_or result w 0 ≡ choice_word_of (first + w) part }
 {
-    for step in steps {
-        let number = usize::from(step.number);
-        let left = usize::from(step.left);
-        let right = usize::from(step.right);
-        let even_row = implies_throughout(even[left], even[right]);
-        let odd_row = implies_throughout(odd[left], odd[right]);
-        even[number] = even_row;
-        odd[number] = odd_row;
+    array::from_fn(|word| choice_word(first + word, part))
+}
+
+// Makes the rows of implications, step by step.
+fn follow<const ROWS: usize>(steps: &[Step], rows: &mut [Wide; ROWS])
+    requires few { ROWS ≤ 2048 }
+    requires room { 13 + length steps.now ≤ ROWS }
+    requires lower { LowerSteps steps.now }
+    ensures made { (j : ℕ) (s : Step) → slice_get steps.now j ≡ Some s → Made rows.new 16 j s }
+    ensures others { (p w : ℕ) → p < 13 → word_at rows.new p w ≡ word_at rows.old p w }
+{
+    for (number, step) in steps.iter().enumerate() {
+        let row = implied(rows[usize::from(step.left)], rows[usize::from(step.right)]);
+        rows[FIRST_STEP + number] = row;
     }
+}
+
+// Where the left side is false or the right side true.
+fn implied(left: Wide, right: Wide) -> Wide
+    ensures { (w : ℕ) → w < 16 → slice_index_or result w 0 ≡ bit_or (slice_index_or right w 0) (2 ^ 64 - 1 - slice_index_or left w 0) }
+{
+    array::from_fn(|word| right[word] | !left[word])
+}
+
+// Whether a row is true under all its choices.
+fn is_full(row: &Wide) -> bool
+    ensures { IsTrue result ↔ ((w : ℕ) → w < 16 → slice_index_or row.now w 0 ≡ 2 ^ 64 - 1) }
+{
+    row.iter().all(|word| *word == u64::MAX)
 }

@@ -1,8 +1,6 @@
 // The prime parts of an entry's formula: what is reached by going down through implications only, and is not false.
-ghost use Rattle.std.specs.Prelude.{◌≡◌, ℕ, ◌<◌, length, IfOk, MatchResult};
-ghost use Rattle.formulas.specs.Decode.{formula_at};
-ghost use Rattle.calculus.specs.PrimeParts.{gathered};
-ghost use Rattle.tautologies.specs.Gathering.{Entered, Gathered, Marked, formulas_at};
+ghost use Rattle.std.specs.Prelude.{◌+◌, ◌<◌, length, MatchResult};
+ghost use Rattle.tautologies.specs.Gathering.{Entered, PassedOn, TooManyParts};
 
 use crate::ENTRIES;
 use crate::short_list::ShortList;
@@ -18,8 +16,8 @@ pub(crate) type Parts = ShortList<u16, PARTS>;
 #[derive(Clone, Copy)]
 pub(crate) struct TooMany;
 
-// Adds the prime parts of an entry that are not there yet, and marks what it goes through. A marked entry has its parts
-// there, so that each is gone through once, however often it is shared.
+// Goes down from an entry, number by number. Operands have lower numbers, so that an entry is marked before it is come to, if
+// it ever is, and is gone through once, however often it is shared.
 pub(crate) fn gather(
     entries: &[Entry],
     number: u16,
@@ -28,23 +26,40 @@ pub(crate) fn gather(
 ) -> Result<(), TooMany>
     requires entered { Entered entries.now }
     requires there { number < length entries.now }
-    requires before { Gathered entries.now seen.old parts.old }
-    ensures parts { MatchResult result
-        (λ _. formulas_at entries.now parts.new ≡ gathered (formulas_at entries.now parts.old) (formula_at entries.now number))
-        (λ _. 12 < length (gathered (formulas_at entries.now parts.old) (formula_at entries.now number))) }
-    ensures after { IfOk result (λ _. Gathered entries.now seen.new parts.new) }
-    ensures marked { IfOk result (λ _. Marked seen.new number) }
-    ensures kept { IfOk result (λ _. (n : ℕ) → Marked seen.old n → Marked seen.new n) }
+    ensures { MatchResult result
+        (λ _. PassedOn entries.now seen.old parts.old (number + 1) seen.new parts.new 0)
+        (λ _. TooManyParts entries.now seen.old parts.old (number + 1)) }
+{
+    visit(entries, number, seen, parts)?;
+    if number == 0 {
+        return Ok(());
+    }
+    // The last call of all, so that the compiler makes a loop of it, which takes no stack.
+    gather(entries, number - 1, seen, parts)
+}
+
+// Marks the operands of a marked implication; another marked entry is a part, unless it is false.
+fn visit(
+    entries: &[Entry],
+    number: u16,
+    seen: &mut [bool; ENTRIES],
+    parts: &mut Parts,
+) -> Result<(), TooMany>
+    requires entered { Entered entries.now }
+    requires there { number < length entries.now }
+    ensures { MatchResult result
+        (λ _. PassedOn entries.now seen.old parts.old (number + 1) seen.new parts.new number)
+        (λ _. TooManyParts entries.now seen.old parts.old (number + 1)) }
 {
     let place = usize::from(number);
-    if seen[place] {
+    if !seen[place] {
         return Ok(());
     }
     match entries[place] {
         Entry::False => {}
         Entry::Implies(left, right) => {
-            gather(entries, left, seen, parts)?;
-            gather(entries, right, seen, parts)?;
+            seen[usize::from(left)] = true;
+            seen[usize::from(right)] = true;
         }
         Entry::Atom(_) | Entry::Next(_) | Entry::Always(_) => {
             if parts.is_full() {
@@ -53,6 +68,5 @@ pub(crate) fn gather(
             parts.push(number);
         }
     }
-    seen[place] = true;
     Ok(())
 }

@@ -29,6 +29,7 @@ pub fn taut_verdict(formulas: &FormulaList, number: u16) -> Verdict
         return Verdict::NotAdmitted;
     }
     let mut seen = [false; ENTRIES];
+    seen[usize::from(number)] = true;
     let mut parts = Parts::new(0);
     match gather(entries, number, &mut seen, &mut parts) {
         Ok(()) => {

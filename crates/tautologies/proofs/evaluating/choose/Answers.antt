@@ -1,37 +1,22 @@
--- The row of a part is written once, since each part stands once.
-use Rattle.std.proofs.Common.{◌≡◌, ℕ, ◌<◌, List, [], length, get_or, set, Some, sym, ap, ◌∙◌, subst, inl, inr, arith, get_or-set_other, get_or-set_same, length-set}
-use Rattle.std.specs.List.{slice_get}
+-- One row more at each turn.
+use Rattle.std.proofs.Common.{◌≡◌, ℕ, length, set, ◌+◌, ◌<◌, ◌∙◌, subst, sym, inl, inr, arith, length-set}
 use Rattle.std.proofs.lemmas.Bool.{cases_eq}
-use Rattle.std.proofs.lemmas.Option.{slice_get-get_or}
-use Rattle.formulas.proofs.Members.{some_same, nth_within}
-use Rattle.tautologies.specs.Choosing.{choice_row}
+use Rattle.tautologies.specs.Planning.{word_at}
+use Rattle.tautologies.specs.Choosing.{choice_word_of}
+use Rattle.tautologies.proofs.Filling.{word_same, word_other}
 use Rattle.tautologies.proofs.evaluating.choose.Goals as goal
 
-pub loop-place-preserved : goal.loop-place-preserved
-loop-place-preserved c =
-    let parts = c.args.parts.now in
-    let rows : List (List ℕ) = c.loop-place.rows in
-    let at : ℕ = c.loop-place.place in
-    let here : slice_get parts at ≡ Some c.from.result = slice_get-get_or parts at 0 c.loop-place-test.true ∙ ap Some (sym c.from.ensures) in
-    let room : c.from.result < length rows = omega (arith, c.requires.within at c.from.result here) in
-    let row : get_or (set rows c.from.result c.choices.result) c.from.result [] ≡ choice_row c.args.block at = get_or-set_same rows c.from.result c.choices.result [] room ∙ c.choices.ensures in
+pub loop-part-preserved : goal.loop-part-preserved
+loop-part-preserved g c =
+    let rows = c.loop-part.rows in
+    let n : ℕ = c.loop-part.part in
+    let row = c.choices.result in
+    let room : n < length rows = omega (arith, c.loop-part.invariant.long, c.requires.room, c.loop-part-test.true) in
     record {
-      long = length-set rows c.from.result c.choices.result ∙ c.loop-place.invariant.long;
-      parts = λ k n before is. elim (cases_eq k at) [
-        | inl e ↦
-            let same : c.from.result ≡ n = some_same (sym here ∙ ap (slice_get parts) (sym e) ∙ is) in
-            subst (λ (m : ℕ). get_or (set rows c.from.result c.choices.result) m [] ≡ choice_row c.args.block k) same (row ∙ ap (choice_row c.args.block) (sym e))
-        | inr ne ↦
-            let earlier : k < at = omega (arith, ne) in
-            get_or-set_other rows c.from.result n c.choices.result []
-            (λ same. c.requires.once k at earlier c.loop-place-test.true (is ∙ ap Some same ∙ sym here))
-            ∙ c.loop-place.invariant.parts k n earlier is
+      long = length-set rows n row ∙ c.loop-part.invariant.long;
+      parts = λ k w before h. elim (cases_eq k n) [
+        | inl e ↦ subst (λ (m : ℕ). word_at (set rows n row) m w ≡ choice_word_of (c.args.first + w) m) (sym e) (word_same rows n w row room ∙ c.choices.ensures w h)
+        | inr ne ↦ word_other rows n k w row ne ∙ c.loop-part.invariant.parts k w (omega (arith, ne)) h
       ];
-      others = λ n none.
-          get_or-set_other rows c.from.result n c.choices.result []
-          (λ same. none at (omega arith) (here ∙ ap Some (sym same)))
-          ∙ c.loop-place.invariant.others n (λ k before. none k (omega arith));
+      others = λ p w behind. word_other rows n p w row (λ e. omega arith) ∙ c.loop-part.invariant.others p w (omega arith);
     }
-
-pub returns-clause-parts : goal.returns-clause-parts
-returns-clause-parts c = λ k n is. c.loop-place.invariant.parts k n (omega (arith, nth_within c.args.parts.now k is)) is

@@ -1,13 +1,12 @@
 -- The rows of the parts that the loop has passed are written, and no others.
-use Rattle.std.proofs.Common.{◌≡◌, ℕ, ◌<◌, ◌≢◌, length, Some}
-use Rattle.std.specs.List.{slice_get}
-use Rattle.tautologies.specs.Planning.{row_numbered}
-use Rattle.tautologies.specs.Choosing.{choice_row}
+use Rattle.std.proofs.Common.{length, ◌≡◌, ℕ, ◌+◌, ◌<◌, ◌≤◌}
+use Rattle.tautologies.specs.Planning.{word_at}
+use Rattle.tautologies.specs.Choosing.{choice_word_of}
 use Rattle.tautologies.proofs.evaluating.choose.Given as goal
 
-abbrev pub invariant-loop-place : goal.invariant-loop-place
-invariant-loop-place l = record {
-  long : length l.rows ≡ 1024;
-  parts : (k n : ℕ) → k < l.place → slice_get l.parts k ≡ Some n → row_numbered l.rows n ≡ choice_row l.block k;
-  others : (n : ℕ) → ((k : ℕ) → k < l.place → slice_get l.parts k ≢ Some n) → row_numbered l.rows n ≡ row_numbered l.initial.rows n;
+abbrev pub invariant-loop-part : goal.invariant-loop-part
+invariant-loop-part g l = record {
+  long : length l.rows ≡ g.row.ROWS;
+  parts : (k w : ℕ) → k < l.part → w < 16 → word_at l.rows k w ≡ choice_word_of (l.first + w) k;
+  others : (p w : ℕ) → l.part ≤ p → word_at l.rows p w ≡ word_at l.initial.rows p w;
 }

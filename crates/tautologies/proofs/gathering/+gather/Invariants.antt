@@ -1,4 +1,4 @@
--- Operands have lower numbers.
+-- Numbers fall.
 use Rattle.tautologies.proofs.gathering.+gather.Given as goal
 
 abbrev pub decreases-gather : goal.decreases-gather
