@@ -1,8 +1,14 @@
 -- The lines of formulas grow by one formula after another.
-use Rattle.std.proofs.Common.{◌≡◌, ℕ, zero, suc, ◌+◌, ◌<◌, ◌≤◌, ◌++◌, length, inl, inr, add-one, arith, length-append}
-use Rattle.std.proofs.lemmas.Bool.{cases_lt}
+use Rattle.std.proofs.Common.{List, Ok, Err, get_or, ltb, sym, ap, ◌∙◌, ◌≡◌, ℕ, zero, suc, ◌+◌, ◌<◌, ◌≤◌, ◌++◌, length, inl, inr, add-one, arith, length-append}
+use Rattle.std.proofs.lemmas.Bool.{cases_lt, cond-true, lt-ltb}
+use Rattle.std.proofs.lemmas.Option.{slice_get-get_or}
+use Rattle.formulas.proofs.Members.{some_same}
+use Rattle.refusals.specs.declared.Refusal.TheVariants.{NotEntered}
+use Rattle.model.specs.declared.standing.Standing.{Standing}
+use Rattle.model.specs.declared.standing.Standing.TheVariants.{Open}
+use Rattle.listing.specs.Standings.{StandSo}
 use Rattle.model.specs.Case.{Case}
-use Rattle.model.specs.Reads.{standing_in}
+use Rattle.model.specs.Reads.{standing_by, first_line, first_refutation_of, standing_in}
 use Rattle.listing.specs.Listing.{line_of_standing, standing_lines_to}
 
 -- the line of one formula more
@@ -18,3 +24,13 @@ lines_within c f (suc g) less = elim (cases_lt f g) [
   | inl before ↦ let within = lines_within c f g before in rw length-append (omega arith)
   | inr last ↦ let same : f ≡ g = omega arith in rw (same, length-append) (omega arith)
 ]
+
+-- the line of a formula, by how an array says that it stands
+pub line_told : (c : Case) (standings : List Standing) → length standings ≡ 1024 → StandSo c standings → (f i : ℕ) (d : Standing) → i ≡ f → f < length c.formulas → f < 1024
+    → line_of_standing f (Ok (get_or standings i d)) ≡ line_of_standing f (standing_in c f)
+line_told c standings long so f i d is there few =
+    let here : get_or standings i d ≡ get_or standings f Open =
+    ap (λ (k : ℕ). get_or standings k d) is
+    ∙ some_same (sym (slice_get-get_or standings f d (omega (arith, long))) ∙ slice_get-get_or standings f Open (omega (arith, long))) in
+    ap (λ (s : Standing). line_of_standing f (Ok s)) (here ∙ so f few)
+    ∙ ap (line_of_standing f) (sym (cond-true (ltb f (length c.formulas)) (Ok (standing_by (first_line c f) (first_refutation_of c f))) (Err NotEntered) (lt-ltb f (length c.formulas) there)))

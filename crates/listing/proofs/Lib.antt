@@ -1,4 +1,5 @@
 pub mod Growing
+mod Firsts
 pub mod Reading
 pub mod Room
 pub mod Spelling

@@ -1,4 +1,5 @@
 pub mod Listing
 pub mod Room
 pub mod Telling
+pub mod Standings
 pub mod Written

@@ -1,13 +1,11 @@
 // The lines of a listing.
-ghost use Rattle.std.specs.Prelude.{◌≡◌, ◌+◌, ◌≤◌, ◌++◌, length, decimal, Ok, Err};
-ghost use Rattle.model.specs.Reads.{standing_in};
-ghost use Rattle.cases.specs.Model.{sealed};
+ghost use Rattle.std.specs.Prelude.{◌≡◌, ◌+◌, ◌≤◌, ◌++◌, length, decimal, [], MatchOption, Ok, Err};
 ghost use Rattle.listing.specs.Listing.{line, line_of_counts, line_of_standing, line_of_ending};
 ghost use Rattle.listing.specs.declared.text.TheConstants.{TEXT_MOST, DIGITS_MOST};
 
 use crate::text::Text;
 use crate::unread::Unread;
-use cases::{Counts, SealedCase, Standing};
+use cases::{Counts, Standing};
 
 // How many of each a case has.
 #[tactic(auto, unfolding(crate::specs::Listing::line_of_counts))]
@@ -23,26 +21,17 @@ pub(crate) fn counts_line(counts: Counts) -> Text
     line
 }
 
-// The line of the formula with a number: an empty one if it is open, or not entered.
+// The line of the formula with a number, by how it stands: none for an open one. Inlined, so that for an open one, as most are, no
+// room for a text is taken and copied.
+#[inline(always)]
 #[tactic(auto, unfolding(crate::specs::Listing::line_of_standing))]
-pub(crate) fn formula_line(case: &SealedCase, number: u16) -> Text
-    ensures { result ≡ line_of_standing number (standing_in (sealed case.now) number) }
-{
-    match case.standing(number) {
-        Ok(standing) => standing_line(number, standing),
-        Err(_) => Text::new(),
-    }
-}
-
-// How the formula with a number stands: an empty line for an open one.
-#[tactic(auto, unfolding(crate::specs::Listing::line_of_standing))]
-fn standing_line(number: u16, standing: Standing) -> Text
-    ensures { result ≡ line_of_standing number (Ok standing) }
+pub(crate) fn standing_line(number: u16, standing: Standing) -> Option<Text>
+    ensures { MatchOption result (line_of_standing number (Ok standing) ≡ []) (λ text. text ≡ line_of_standing number (Ok standing)) }
 {
     match standing {
-        Standing::Derived(first) => settled_line(number, b" derived ", first),
-        Standing::Refuted(first) => settled_line(number, b" refuted ", first),
-        Standing::Open => Text::new(),
+        Standing::Derived(first) => Some(settled_line(number, b" derived ", first)),
+        Standing::Refuted(first) => Some(settled_line(number, b" refuted ", first)),
+        Standing::Open => None,
     }
 }
 

@@ -8,7 +8,7 @@ ghost use Rattle.listing.specs.Written.{written_answer, written_after};
 
 use crate::lines::{counts_line, ending_line};
 use crate::refusal::ListingRefusal;
-use crate::standings::{copy_standings, standings_len};
+use crate::standings::{copy_standings, standings, standings_len};
 use crate::unread::Unread;
 use cases::SealedCase;
 
@@ -29,19 +29,18 @@ pub fn write_listing(
     ensures enough { AlwaysRoom LISTING_MOST }
     ensures tells { ListingTells }
 {
-    let counts = case.counts();
-    let formulas = counts.formulas as u16;
-    let first = counts_line(counts);
+    let first = counts_line(case.counts());
     let last = ending_line(ending);
     let (first, last) = (first.as_slice(), last.as_slice());
     let at = first.len();
-    let behind = at + standings_len(case, formulas);
+    let standings = standings(case);
+    let behind = at + standings_len(case, &standings);
     let end = behind + last.len();
     if end > buffer.len() {
         return Err(ListingRefusal::BufferTooShort);
     }
     buffer[..at].copy_from_slice(first);
-    copy_standings(case, formulas, &mut buffer[at..behind]);
+    copy_standings(case, &standings, &mut buffer[at..behind]);
     buffer[behind..end].copy_from_slice(last);
     Ok(end)
 }
