@@ -1,3 +1,4 @@
 pub mod Checked
 pub mod FileHistory
 pub mod Promises
+pub mod Unwritten

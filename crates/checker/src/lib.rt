@@ -1,12 +1,13 @@
 // From a file's bytes to its listing: the front, the seal, the body, the listing.
 #![tactic(auto)]
 
-ghost use Rattle.std.specs.Prelude.{◌≡◌, IfOk, replicate};
+ghost use Rattle.std.specs.Prelude.{◌≡◌, IfOk, replicate, take};
 ghost use Rattle.model.specs.Case.{empty};
 ghost use Rattle.model.specs.Promises.{ScratchSuffices};
 ghost use Rattle.cases.specs.Model.{opened, sealed};
 ghost use Rattle.listing.specs.Written.{written_answer, written_after};
 ghost use Rattle.checker.specs.Checked.{checked, from_front, file_listing};
+ghost use Rattle.checker.specs.Unwritten.{ListsInto};
 ghost use Rattle.checker.specs.Promises.{ListsHistory, ListingsFit, StartSuffices, FilePromises};
 
 use cases::{OpenCase, SealedCase};
@@ -14,6 +15,9 @@ use files::{Fault, read_body, read_front};
 use listing::{LISTING_MOST, ListingRefusal, Unread, write_listing};
 use rules::{DerivedPage, PublishedPage};
 use std::alloc::{AllocError, Global};
+pub use unwritten::Unwritten;
+
+mod unwritten;
 
 // The most bytes that a file has.
 pub const FILE_MOST: usize = 16_384;
@@ -49,8 +53,22 @@ pub fn list_file(
     write_listing(&case, ending, buffer)
 }
 
-// The listing of a file that is read into a new case. It is that of the history that the file makes: its front's calls,
-// the seal, its body's calls.
+// Writes the listing of a file that is read into a new case, with scratch words of its own, into a caller's buffer. It is
+// that of the history that the file makes: its front's calls, the seal, its body's calls.
+#[tactic(auto, using(crate::proofs::Promised::promises, crate::proofs::Fitting::listings_fit, crate::proofs::Starting::start_suffices))]
+pub fn list_into(heap: Global, file: &[u8], buffer: &mut [u8]) -> Result<usize, Unwritten>
+    ensures text { ListsInto SCRATCH_MOST file.now buffer.old result buffer.new }
+    ensures history { IfOk result (λ n. ListsHistory SCRATCH_MOST file.now (take n buffer.new)) }
+    ensures promised { FilePromises }
+    ensures fits { ListingsFit LISTING_MOST }
+    ensures start { StartSuffices INPUT_MOST }
+{
+    let mut scratch = vec![in heap; 0; SCRATCH_MOST]?;
+    let case = OpenCase::new(heap)?;
+    Ok(list_file(case, file, &mut scratch, buffer)?)
+}
+
+// The listing of a file that is read into a new case, in memory of its own.
 #[tactic(auto, using(crate::proofs::Promised::promises, crate::proofs::Starting::start_suffices))]
 pub fn listing_of(heap: Global, file: &[u8]) -> Result<Vec<u8>, AllocError>
     ensures text { IfOk result (λ text. text.items ≡ file_listing empty (replicate SCRATCH_MOST 0) file.now) }
@@ -58,15 +76,16 @@ pub fn listing_of(heap: Global, file: &[u8]) -> Result<Vec<u8>, AllocError>
     ensures promised { FilePromises }
     ensures start { StartSuffices INPUT_MOST }
 {
-    let mut scratch = vec![in heap; 0; SCRATCH_MOST]?;
     let mut buffer = vec![in heap; 0; LISTING_MOST]?;
-    let case = OpenCase::new(heap)?;
-    // The buffer has room for every listing, so that the refusal never comes.
-    let Ok(length) = list_file(case, file, &mut scratch, &mut buffer) else {
-        unreachable!()
-    };
-    buffer.truncate(length);
-    Ok(buffer)
+    match list_into(heap, file, &mut buffer) {
+        Ok(length) => {
+            buffer.truncate(length);
+            Ok(buffer)
+        }
+        Err(Unwritten::NoMemory) => Err(AllocError),
+        // The buffer has room for every listing.
+        Err(Unwritten::BufferTooShort) => unreachable!(),
+    }
 }
 
 // Reads a file into a case, which is sealed in any case, and answers how that ended beside it.
