@@ -1,8 +1,10 @@
 // Compares readings of case files with one another on generated files, and tallies what came up.
 
 use crate::generate::{file, Kind, KINDS};
+use crate::records::{field_at, kind_of, HEAD, LINE, RULES};
 use std::collections::BTreeMap;
 use std::io;
+use std::panic::catch_unwind;
 use std::ops::Range;
 use std::path::PathBuf;
 use std::thread;
@@ -23,8 +25,6 @@ const REFUSALS: [(usize, usize); 20] = [
     (2, 23), (2, 24), (2, 26),
     (3, 1), (3, 2), (3, 3), (3, 4), (3, 5), (3, 6), (3, 7), (3, 8), (3, 9), (3, 10), (3, 11), (3, 13), (3, 14), (3, 15),
 ];
-const RULES: [u16; 12] = [0, 1, 2, 3, 4, 5, 6, 7, 16, 17, 18, 19];
-
 const NOT_ADMITTED: usize = 8;
 const BEYOND_LIMIT: usize = 9;
 
@@ -45,7 +45,7 @@ pub fn compare(readings: &[Reading], files: usize, seed: u64) -> bool {
         let shares = (0..THREADS).map(|share| files * share / THREADS..files * (share + 1) / THREADS);
         let workers: Vec<_> = shares.map(|numbers| scope.spawn(move || compare_some(readings, numbers, seed))).collect();
         for worker in workers {
-            tally.add(worker.join().expect("no reading panics"));
+            tally.add(worker.join().expect("what a reading panics with is caught"));
         }
     });
     tally.print(readings);
@@ -63,7 +63,7 @@ fn compare_some(readings: &[Reading], numbers: Range<usize>, seed: u64) -> Tally
         let kind = TURNS[number % TURNS.len()];
         let file_seed = seed.wrapping_mul(1_000_003).wrapping_add(number as u64);
         let bytes = file(kind, file_seed);
-        let listings: Vec<Vec<u8>> = readings.iter().map(|reading| (reading.listing)(&bytes)).collect();
+        let listings: Vec<Vec<u8>> = readings.iter().map(|reading| listed(reading, &bytes)).collect();
         tally.count(kind, &bytes, &listings[0]);
         if listings.iter().any(|listing| *listing != listings[0]) {
             tally.differences.push(Difference { number, kind, seed: file_seed, bytes, listings });
@@ -72,13 +72,18 @@ fn compare_some(readings: &[Reading], numbers: Range<usize>, seed: u64) -> Tally
     tally
 }
 
+/// The listing of a file by a reading. One that panics has a text that no other has, so that the file is told and kept.
+fn listed(reading: &Reading, bytes: &[u8]) -> Vec<u8> {
+    catch_unwind(|| (reading.listing)(bytes)).unwrap_or_else(|_| format!("{} panics\n", reading.name).into_bytes())
+}
+
 // ---- What came up ----
 
 #[derive(Default)]
 struct Tally {
     kinds: BTreeMap<&'static str, KindTally>,
     refusals: BTreeMap<(usize, usize), usize>,
-    rules: BTreeMap<u16, RuleTally>,
+    rules: BTreeMap<usize, RuleTally>,
     differences: Vec<Difference>,
 }
 
@@ -108,7 +113,7 @@ struct Difference {
     listings: Vec<Vec<u8>>,
 }
 
-/// What a listing says in its first and in its last line.
+/// What a listing says in its first and in its last line; of another text, nothing and that it is too long.
 struct Summary {
     lines: usize,
     refutations: usize,
@@ -140,7 +145,7 @@ impl Tally {
 
     fn count_refused_rule(&mut self, bytes: &[u8], number: usize, offset: usize) {
         if number == NOT_ADMITTED || number == BEYOND_LIMIT {
-            let tally = self.rules.entry(field(bytes, offset + 4)).or_default();
+            let tally = self.rules.entry(field_at(bytes, offset + HEAD)).or_default();
             tally.not_admitted += usize::from(number == NOT_ADMITTED);
             tally.beyond_limit += usize::from(number == BEYOND_LIMIT);
         }
@@ -150,10 +155,10 @@ impl Tally {
     fn count_held_rules(&mut self, bytes: &[u8]) {
         let mut offset = 0;
         while offset < bytes.len() {
-            if field(bytes, offset + 2) == 4 {
-                self.rules.entry(field(bytes, offset + 4)).or_default().held += 1;
+            if kind_of(&bytes[offset..]) == LINE {
+                self.rules.entry(field_at(bytes, offset + HEAD)).or_default().held += 1;
             }
-            offset += 4 + field(bytes, offset) as usize;
+            offset += HEAD + field_at(bytes, offset);
         }
     }
 
@@ -219,10 +224,6 @@ impl RuleTally {
     }
 }
 
-fn field(bytes: &[u8], offset: usize) -> u16 {
-    u16::from_le_bytes([bytes[offset], bytes[offset + 1]])
-}
-
 fn summary(listing: &[u8]) -> Summary {
     let text = String::from_utf8_lossy(listing);
     let numbers = |line: &str| -> Vec<usize> { line.split(' ').filter_map(|word| word.parse().ok()).collect() };
@@ -233,7 +234,8 @@ fn summary(listing: &[u8]) -> Summary {
         (Some("refused"), [layer, number, offset]) => Ending::Refused { layer: *layer, number: *number, offset: *offset },
         _ => Ending::TooLong,
     };
-    Summary { lines: counts[2], refutations: counts[3], ending }
+    let count = |place: usize| counts.get(place).copied().unwrap_or(0);
+    Summary { lines: count(2), refutations: count(3), ending }
 }
 
 // ---- Tables ----

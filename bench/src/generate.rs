@@ -4,13 +4,13 @@ mod draft;
 mod edges;
 mod limits;
 mod misfits;
-mod random;
 mod runs;
 mod shapes;
 mod steps;
 
-use draft::{field, kind_of, Draft, Slips, ASSUME, EMPTY_PLACE, FORM, HEAD, LINE, PULSES, SEAL, TABLE};
-use random::Random;
+use crate::random::Random;
+use crate::records::{field, kind_of, ASSUME, EMPTY_PLACE, FORM, HEAD, LINE, PULSES, SEAL, TABLE};
+use draft::{Draft, Slips};
 
 #[derive(Clone, Copy, PartialEq)]
 pub enum Kind {

@@ -5,6 +5,8 @@ mod compare;
 mod generate;
 mod measure;
 mod plain;
+mod random;
+mod records;
 mod words;
 
 use compare::Reading;

@@ -1,21 +1,8 @@
 // A case file as it is being drafted, with what its case will hold if nothing in it is refused.
 
-use super::random::Random;
 use crate::plain::Formula;
-
-pub const FORM: u16 = 1;
-pub const ASSUME: u16 = 2;
-pub const SEAL: u16 = 3;
-pub const LINE: u16 = 4;
-pub const TABLE: u16 = 5;
-pub const PULSES: u16 = 6;
-pub const EMPTY_PLACE: usize = 65_535;
-
-/// How many bytes a head has.
-pub const HEAD: usize = 4;
-
-/// Every rule that can be admitted, and the assumption's number before them.
-pub const RULES: [usize; 12] = [0, 1, 2, 3, 4, 5, 6, 7, 16, 17, 18, 19];
+use crate::random::Random;
+use crate::records::{self, field, kind_of, ASSUME, EMPTY_PLACE, FORM, LINE, RULES, SEAL};
 
 pub struct Draft {
     pub random: Random,
@@ -45,10 +32,7 @@ impl Draft {
     // ---- Records ----
 
     pub fn record(&mut self, kind: u16, payload: &[u8]) {
-        let mut record = field(payload.len()).to_vec();
-        record.extend(kind.to_le_bytes());
-        record.extend(payload);
-        self.records.push(record);
+        self.records.push(records::record(kind, payload));
     }
 
     fn form(&mut self, formula: Formula) {
@@ -59,8 +43,7 @@ impl Draft {
             Formula::Next(operand) => (3, operand, 0),
             Formula::Always(operand) => (4, operand, 0),
         };
-        let payload = [&[kind][..], &field(left), &field(right)].concat();
-        self.record(FORM, &payload);
+        self.record(FORM, &records::form(kind, left, right));
     }
 
     /// The form record of a formula that is entered already.
@@ -242,13 +225,4 @@ impl Draft {
             }
         }
     }
-}
-
-/// A number as a field, the low byte first.
-pub fn field(number: usize) -> [u8; 2] {
-    (number as u16).to_le_bytes()
-}
-
-pub fn kind_of(record: &[u8]) -> u16 {
-    u16::from_le_bytes([record[2], record[3]])
 }

@@ -1,9 +1,9 @@
 // Refutations by long runs on which something changes near the end of a row's word of 64 positions, of a stem or of a run.
 
 use super::draft::Draft;
-use super::random::Random;
 use super::runs::{run_with, table_of, RunBytes, POSITIONS_MOST};
 use crate::plain;
+use crate::random::Random;
 
 /// Below this length of a file there is room for one more refutation by the longest run.
 const ROOM: usize = 15_000;

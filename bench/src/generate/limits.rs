@@ -1,10 +1,11 @@
 // Files at the limits and beyond them, and files of formulas that share their parts deeply.
 
-use super::draft::{field, kind_of, Draft, LINE, TABLE};
+use super::draft::Draft;
 use super::edges::write_edges;
 use super::runs::{any_run, run_with, RunBytes, POSITIONS_MOST};
 use super::steps::{axiom_line, axiom_line_of, conclude, conclude_from, derive, refute, refute_by, tautology_line, true_throughout};
 use crate::plain::Formula;
+use crate::records::{field, kind_of, LINE, TABLE};
 
 /// A file that comes near one of the limits, reaches it or passes it.
 pub fn write_full(draft: &mut Draft) {

@@ -1,7 +1,8 @@
 // Files that miss in one place what a rule, a run or an atom must be like.
 
-use super::draft::{field, Draft, Slips, EMPTY_PLACE, PULSES, TABLE};
+use super::draft::{Draft, Slips};
 use super::shapes::{implies_always, implies_next, implies_sometime, ltl1, ltl2, ltl3};
+use crate::records::{field, EMPTY_PLACE, PULSES, TABLE};
 
 pub fn write_misfit(draft: &mut Draft) {
     if draft.random.one_in(4) {

@@ -1,8 +1,9 @@
 // Runs as the bytes of refutation records: random ones, and one run written in other ways.
 
-use super::draft::{field, Draft, PULSES, TABLE};
-use super::random::Random;
+use super::draft::Draft;
 use crate::plain::{self, Run};
+use crate::random::Random;
+use crate::records::{field, PULSES, TABLE};
 
 /// The most positions that a refutation's run may have.
 pub const POSITIONS_MOST: usize = 256;

@@ -1,11 +1,15 @@
 // The case files that are measured, each built record by record.
 
+use crate::random::Random;
+use crate::records::{self, field, ASSUME, EMPTY_PLACE, FORM, LINE, PULSES, SEAL, TABLE};
+
 const FALSE: u8 = 0;
 const ATOM: u8 = 1;
 const IMPLIES: u8 = 2;
 const NEXT: u8 = 3;
 const ALWAYS: u8 = 4;
-const EMPTY_PLACE: u16 = 65_535;
+/// In the place of a premise that is not given.
+const NONE: u16 = EMPTY_PLACE as u16;
 
 /// A case file, and what it has entered so far.
 pub struct File {
@@ -21,13 +25,12 @@ impl File {
     }
 
     fn record(&mut self, kind: u16, payload: &[u8]) {
-        self.bytes.extend((payload.len() as u16).to_le_bytes());
-        self.bytes.extend(kind.to_le_bytes());
-        self.bytes.extend(payload);
+        self.bytes.extend(records::record(kind, payload));
     }
 
+    /// A record whose payload is of these fields.
     fn fields(&mut self, kind: u16, fields: &[u16]) {
-        let payload: Vec<u8> = fields.iter().flat_map(|field| field.to_le_bytes()).collect();
+        let payload: Vec<u8> = fields.iter().flat_map(|number| field(usize::from(*number))).collect();
         self.record(kind, &payload);
     }
 
@@ -37,8 +40,7 @@ impl File {
         if let Some(number) = self.forms.iter().position(|there| *there == form) {
             return number as u16;
         }
-        let (left, right) = (left.to_le_bytes(), right.to_le_bytes());
-        self.record(1, &[kind, left[0], left[1], right[0], right[1]]);
+        self.record(FORM, &records::form(kind, usize::from(left), usize::from(right)));
         self.forms.push(form);
         self.forms.len() as u16 - 1
     }
@@ -81,22 +83,22 @@ impl File {
     }
 
     fn assume(&mut self, formula: u16) {
-        self.fields(2, &[formula]);
+        self.fields(ASSUME, &[formula]);
     }
 
     fn seal(&mut self) {
-        self.fields(3, &[]);
+        self.fields(SEAL, &[]);
     }
 
     /// The number of a line that is entered, where every line is held.
     fn line(&mut self, rule: u16, formula: u16, first: u16, second: u16) -> u16 {
-        self.fields(4, &[rule, formula, first, second]);
+        self.fields(LINE, &[rule, formula, first, second]);
         self.lines += 1;
         self.lines - 1
     }
 
     fn taut(&mut self, formula: u16) -> u16 {
-        self.line(1, formula, EMPTY_PLACE, EMPTY_PLACE)
+        self.line(1, formula, NONE, NONE)
     }
 
     fn count(&self) -> u16 {
@@ -104,16 +106,9 @@ impl File {
     }
 }
 
-/// Numbers that look random, the same ones in each run.
-struct Random(u64);
-
-impl Random {
-    fn below(&mut self, end: u16) -> u16 {
-        self.0 ^= self.0 << 13;
-        self.0 ^= self.0 >> 7;
-        self.0 ^= self.0 << 17;
-        (self.0 >> 16) as u16 % end
-    }
+/// A random number of a formula, say: the same ones come in each run.
+fn below(random: &mut Random, end: u16) -> u16 {
+    random.below(usize::from(end)) as u16
 }
 
 /// The example file that README shows.
@@ -127,7 +122,7 @@ pub fn forms(name: &str, count: u16) -> File {
     for atom in 0..count.min(32) {
         file.atom(atom);
     }
-    any_kinds(&mut file, &mut Random(1), count);
+    any_kinds(&mut file, &mut Random::new(1), count);
     file.seal();
     file
 }
@@ -135,9 +130,9 @@ pub fn forms(name: &str, count: u16) -> File {
 /// Fills the list of formulas up to a count.
 fn any_kinds(file: &mut File, random: &mut Random, count: u16) {
     while file.count() < count {
-        let left = random.below(file.count());
-        let right = random.below(file.count());
-        match random.below(4) {
+        let left = below(random, file.count());
+        let right = below(random, file.count());
+        match below(random, 4) {
             0 => file.next(left),
             1 => file.always(left),
             _ => file.implies(left, right),
@@ -182,7 +177,7 @@ struct Twins {
 pub fn shared(name: &str, parts: u16, entries: u16, lines: u16) -> File {
     const TAUTOLOGIES: u16 = 16;
     let mut file = File::new(name);
-    let mut random = Random(2);
+    let mut random = Random::new(2);
     let mut twins: Vec<Twins> = (0..parts).map(|part| prime(&mut file, part)).collect();
     while file.count() + 3 + TAUTOLOGIES <= entries {
         let next = implication(&mut file, &mut random, &twins, parts);
@@ -215,9 +210,9 @@ fn implication(file: &mut File, random: &mut Random, twins: &[Twins], parts: u16
     loop {
         let last = twins[twins.len() - 1];
         let unused = twins.len() as u16 - parts;
-        let place = if unused < parts - 1 { unused } else { random.below(twins.len() as u16 - 1) };
+        let place = if unused < parts - 1 { unused } else { below(random, twins.len() as u16 - 1) };
         let earlier = twins[place as usize];
-        let (left, right) = if random.below(2) == 0 { (last, earlier) } else { (earlier, last) };
+        let (left, right) = if below(random, 2) == 0 { (last, earlier) } else { (earlier, last) };
         let truths: Truths = std::array::from_fn(|word| !left.truths[word] | right.truths[word]);
         let held: u32 = truths.iter().map(|word| word.count_ones()).sum();
         if (512..3_584).contains(&held) && twins.iter().all(|before| before.truths != truths) {
@@ -234,7 +229,7 @@ fn implication(file: &mut File, random: &mut Random, twins: &[Twins], parts: u16
 pub fn refutations(name: &str, entries: u16, pulses: u16, positions: u16, refutations: u16) -> File {
     const STEM: u16 = 16;
     let mut file = File::new(name);
-    let mut random = Random(3);
+    let mut random = Random::new(3);
     for atom in 0..32 {
         file.atom(atom);
     }
@@ -253,7 +248,7 @@ pub fn refutations(name: &str, entries: u16, pulses: u16, positions: u16, refuta
             fields.extend(any_pulse(&mut random, 32 * pulse / pulses, STEM, positions - STEM));
         }
         fields[4] = STEM;
-        file.fields(6, &fields);
+        file.fields(PULSES, &fields);
     }
     file
 }
@@ -261,7 +256,7 @@ pub fn refutations(name: &str, entries: u16, pulses: u16, positions: u16, refuta
 /// ¬(□A → ○A) for some earlier A: a new formula that holds nowhere.
 fn never(file: &mut File, random: &mut Random) -> u16 {
     loop {
-        let of = random.below(file.count());
+        let of = below(random, file.count());
         let (always, next) = (file.always(of), file.next(of));
         let before = file.count();
         let valid = file.implies(always, next);
@@ -274,8 +269,8 @@ fn never(file: &mut File, random: &mut Random) -> u16 {
 /// Atom, first position, period and width of a pulse that fits a stem and a loop.
 fn any_pulse(random: &mut Random, atom: u16, stem: u16, whole: u16) -> [u16; 4] {
     let periods: Vec<u16> = (1..=whole).filter(|period| whole.is_multiple_of(*period)).collect();
-    let period = periods[random.below(periods.len() as u16) as usize];
-    [atom, random.below(stem + 1), period, random.below(period + 1)]
+    let period = periods[below(random, periods.len() as u16) as usize];
+    [atom, below(random, stem + 1), period, below(random, period + 1)]
 }
 
 /// Lines by mp, from an assumption and a tautology on the first two lines.
@@ -286,7 +281,7 @@ pub fn by_mp(name: &str, lines: u16) -> File {
     let whole = file.implies(given, conclusion);
     file.assume(given);
     file.seal();
-    let first = file.line(0, given, EMPTY_PLACE, EMPTY_PLACE);
+    let first = file.line(0, given, NONE, NONE);
     let second = file.taut(whole);
     for _ in 2..lines {
         file.line(5, conclusion, first, second);
@@ -297,7 +292,7 @@ pub fn by_mp(name: &str, lines: u16) -> File {
 /// A file of 16,384 bytes with all lists full: 1,024 formulas, 16 assumptions, 512 lines by all rules and 64 refutations.
 pub fn full(name: &str) -> File {
     let mut file = File::new(name);
-    let mut random = Random(4);
+    let mut random = Random::new(4);
     let atoms: Vec<u16> = (0..32).map(|atom| file.atom(atom)).collect();
     let assumed: Vec<u16> = atoms[..16].iter().map(|atom| stays(&mut file, *atom)).collect();
     let refuted: Vec<u16> = atoms[16..].iter().map(|atom| file.always(*atom)).collect();
@@ -306,17 +301,17 @@ pub fn full(name: &str) -> File {
     }
     file.seal();
     for group in 0..31 {
-        let weaker = file.implies(atoms[random.below(32) as usize], atoms[group]);
+        let weaker = file.implies(atoms[below(&mut random, 32) as usize], atoms[group]);
         derivation(&mut file, weaker, assumed[group % 16]);
     }
     any_kinds(&mut file, &mut random, 1_024);
     while file.lines < 512 {
         let formula = assumed[file.lines as usize % 16];
-        file.line(0, formula, EMPTY_PLACE, EMPTY_PLACE);
+        file.line(0, formula, NONE, NONE);
     }
     pulsed(&mut file, &atoms, &refuted);
     for atom in [0, 1] {
-        file.fields(5, &[atoms[atom], 4, 2, 3, 0, 1, 0, 2, 0, 3, 0, 4, 0, 5]);
+        file.fields(TABLE, &[atoms[atom], 4, 2, 3, 0, 1, 0, 2, 0, 3, 0, 4, 0, 5]);
     }
     assert_eq!(file.bytes.len(), 16_384, "the file is full");
     file
@@ -332,24 +327,24 @@ fn stays(file: &mut File, of: u16) -> u16 {
 fn derivation(file: &mut File, weaker: u16, assumed: u16) {
     let derived = file.implies(weaker, assumed);
     let whole = file.implies(assumed, derived);
-    let given = file.line(0, assumed, EMPTY_PLACE, EMPTY_PLACE);
+    let given = file.line(0, assumed, NONE, NONE);
     let weakened = file.taut(whole);
     let held = file.line(5, derived, given, weakened);
     let (next, always) = (file.next(derived), file.always(derived));
-    let next_held = file.line(6, next, held, EMPTY_PLACE);
-    file.line(16, always, held, EMPTY_PLACE);
+    let next_held = file.line(6, next, held, NONE);
+    file.line(16, always, held, NONE);
     let stays = file.implies(derived, next);
     let whole = file.implies(next, stays);
     let weakened = file.taut(whole);
     let stays_held = file.line(5, stays, next_held, weakened);
     let for_ever = file.implies(derived, always);
-    file.line(17, for_ever, stays_held, EMPTY_PLACE);
+    file.line(17, for_ever, stays_held, NONE);
     let itself = file.implies(derived, derived);
     let itself_held = file.taut(itself);
     file.line(7, for_ever, itself_held, stays_held);
     let sometime = file.sometime(derived);
     let reached = file.implies(derived, sometime);
-    let reached_held = file.line(18, reached, stays_held, EMPTY_PLACE);
+    let reached_held = file.line(18, reached, stays_held, NONE);
     file.line(19, reached, reached_held, reached_held);
     axioms(file, weaker, derived, assumed);
 }
@@ -360,16 +355,16 @@ fn axioms(file: &mut File, left: u16, implication: u16, right: u16) {
     let (not_next, next_not) = (file.not(next_left), file.next(not_left));
     let (there, back) = (file.implies(not_next, next_not), file.implies(next_not, not_next));
     let both = file.and(there, back);
-    file.line(2, both, EMPTY_PLACE, EMPTY_PLACE);
+    file.line(2, both, NONE, NONE);
     let (next_right, next_implication) = (file.next(right), file.next(implication));
     let parts = file.implies(next_left, next_right);
     let whole = file.implies(next_implication, parts);
-    file.line(3, whole, EMPTY_PLACE, EMPTY_PLACE);
+    file.line(3, whole, NONE, NONE);
     let always = file.always(implication);
     let later = file.next(always);
     let both = file.and(implication, later);
     let unfolded = file.implies(always, both);
-    file.line(4, unfolded, EMPTY_PLACE, EMPTY_PLACE);
+    file.line(4, unfolded, NONE, NONE);
 }
 
 /// 62 refutations: 30 have a pulse of an atom that is not assumed to stay, and refute that it is always true; the others refute an atom
@@ -378,9 +373,9 @@ fn pulsed(file: &mut File, atoms: &[u16], refuted: &[u16]) {
     for place in 0..62 {
         let atom = place % 16;
         if place < 30 {
-            file.fields(6, &[refuted[atom as usize], place, 240, 16 + atom, 16, 16, 3 + atom % 9]);
+            file.fields(PULSES, &[refuted[atom as usize], place, 240, 16 + atom, 16, 16, 3 + atom % 9]);
         } else {
-            file.fields(6, &[atoms[atom as usize], place, 256]);
+            file.fields(PULSES, &[atoms[atom as usize], place, 256]);
         }
     }
 }
