@@ -1,7 +1,7 @@
 -- Records take up no more bytes than there are.
-use Rattle.std.proofs.Common.{ℕ, zero, suc, ◌+◌, ◌≤◌, eqb, List, length, drop, Some, None, Ok, Err, Option, Result, arith, length-drop, length-take}
+use Rattle.std.proofs.Common.{◌≡◌, ℕ, zero, suc, ◌+◌, ◌≤◌, eqb, List, length, drop, Some, None, Ok, Err, Option, Result, arith, length-drop, length-take}
 use lib.Dec
-use Rattle.std.proofs.lemmas.Bool.{cond_both, ltb-false}
+use Rattle.std.proofs.lemmas.Bool.{cond_both, eqb-true, ltb-false}
 use Rattle.runs.specs.Bytes.{word}
 use Rattle.records.specs.declared.fault.RecordFault.{RecordFault}
 use Rattle.records.specs.Records.{Content, Records, none, bad, more, first_content, led_by, cut, records}
@@ -12,15 +12,15 @@ extent none = 0
 extent (bad e) = 0
 extent (more kind payload rest) = 4 + length payload + extent rest
 
--- a record that is found takes up no more bytes than there are
-abbrev Within : ℕ → Result (Option Content) RecordFault → Type 0
-Within n (Ok None) = Unit {0}
+-- a record that is found takes up no more bytes than there are, and none is found only where there are none
+abbrev pub Within : ℕ → Result (Option Content) RecordFault → Type 0
+Within n (Ok None) = n ≡ 0
 Within n (Ok (Some r)) = 4 + length r.payload ≤ n
 Within n (Err e) = Unit {0}
 
-first_within : (bytes : List ℕ) → Within (length bytes) (first_content bytes)
+pub first_within : (bytes : List ℕ) → Within (length bytes) (first_content bytes)
 first_within bytes =
-    cond_both (eqb (length bytes) 0) _ _ (Within (length bytes)) (λ _. tt) (λ _.
+    cond_both (eqb (length bytes) 0) _ _ (Within (length bytes)) (λ empty. eqb-true (length bytes) 0 empty) (λ _.
     cond_both (Dec.ltb (length bytes) 4) _ _ (Within (length bytes)) (λ _. tt) (λ _.
     cond_both (Dec.ltb (length bytes) (4 + word bytes 0)) _ _ (Within (length bytes)) (λ _. tt) (λ room.
     omega (arith, length-take (word bytes 0) (drop 4 bytes), ltb-false (length bytes) (4 + word bytes 0) room))))

@@ -17,6 +17,44 @@ content (Err e) = Err e
 abbrev pub content_at : List ℕ → ℕ → Result (Option Content) RecordFault
 content_at bytes at = cond (nat_lt (length bytes) at) (Err ShortHead) (first_content (drop at bytes))
 
+-- a record where it stands in a file: the offset of its head, its kind, its payload, and the offset behind it
+pub record Placed : Type 0 where
+  pub offset : ℕ
+  pub kind : ℕ
+  pub payload : List ℕ
+  pub behind : ℕ
+
+-- what is yielded for the record that is found at an offset: nothing where there are no more bytes, or what is wrong there
+abbrev pub placed : ℕ → Result (Option Content) RecordFault → Option (Result Placed (ErrorAt RecordFault))
+placed at (Ok None) = None
+placed at (Ok (Some r)) = Some (Ok (record { offset = at; kind = r.kind; payload = r.payload; behind = at + 4 + length r.payload }))
+placed at (Err e) = Some (Err (record { error = e; offset = at }))
+
+-- the offset at which the search goes on: behind a record, and else at the end
+abbrev pub behind_item : ℕ → Option (Result Placed (ErrorAt RecordFault)) → ℕ
+behind_item end None = end
+behind_item end (Some (Ok r)) = r.behind
+behind_item end (Some (Err e)) = end
+
+-- what a call of `next` yields of a file from an offset on, and the offset afterwards
+abbrev pub next_item : List ℕ → ℕ → Option (Result Placed (ErrorAt RecordFault))
+next_item bytes at = placed at (content_at bytes at)
+
+abbrev pub next_offset : List ℕ → ℕ → ℕ
+next_offset bytes at = behind_item (length bytes) (next_item bytes at)
+
+-- what an item of the program holds: the bytes that its payload points to, and all else as it is
+abbrev pub item_view : Option (Result declared.Record (ErrorAt RecordFault)) → Option (Result Placed (ErrorAt RecordFault))
+item_view None = None
+item_view (Some (Ok r)) = Some (Ok (record { offset = r.offset; kind = r.kind; payload = r.payload.now; behind = r.behind }))
+item_view (Some (Err e)) = Some (Err e)
+
+-- a call of `next` on the records from an offset on
+pub record NextGives (s : iterator.Records) (item : Option (Result declared.Record (ErrorAt RecordFault))) (t : iterator.Records) : Type 0 where
+  pub file : t.file.now ≡ s.file.now
+  pub yielded : item_view item ≡ next_item s.file.now s.offset
+  pub offset : t.offset ≡ next_offset s.file.now s.offset
+
 -- a record of the program tells where it stands
 pub record IsPlaced (bytes : List ℕ) (at : ℕ) (r : declared.Record) : Type 0 where
   pub head : r.offset ≡ at
@@ -53,3 +91,7 @@ pub record YieldsNone (s t : iterator.Records) : Type 0 where
 pub record YieldsRecord (s : iterator.Records) (item : Option (Result declared.Record (ErrorAt RecordFault))) (t : iterator.Records) : Type 0 where
   pub same : t.file.now ≡ s.file.now
   pub yields : MatchOption item (YieldsNone s t) (λ x. MatchResult x (YieldsMore s t) (YieldsBad s t))
+
+-- what a call of `next` gives is found first in what is left
+abbrev pub NextYields : Type 0
+NextYields = (s : iterator.Records) (item : Option (Result declared.Record (ErrorAt RecordFault))) (t : iterator.Records) → NextGives s item t → YieldsRecord s item t

@@ -1,7 +1,7 @@
 // The records of a file, one after another.
 ghost use Rattle.std.specs.Prelude.{◌≡◌, ◌+◌, ◌-◌, length, MatchOption, IfOk};
 ghost use Rattle.std.specs.Iterator.{at_most};
-ghost use Rattle.records.specs.Contents.{content, content_at, IsPlaced, YieldsRecord};
+ghost use Rattle.records.specs.Contents.{content, content_at, IsPlaced, NextGives, NextYields};
 
 use crate::fault::{ErrorAt, RecordFault, at};
 
@@ -25,9 +25,11 @@ pub struct Records<'a> {
 }
 
 impl<'a> Records<'a> {
+    #[tactic(auto, using(crate::proofs::Left::next_yields))]
     pub fn new(file: &'a [u8], offset: usize) -> Records<'a>
         ensures file { result.file.now ≡ file.now }
         ensures offset { result.offset ≡ offset }
+        ensures yields { NextYields }
     {
         Records { file, offset }
     }
@@ -36,7 +38,7 @@ impl<'a> Records<'a> {
 impl<'a> Iterator for Records<'a> {
     type Item = Result<Record<'a>, ErrorAt<RecordFault>>;
 
-    ghost next_gives = { YieldsRecord };
+    ghost next_gives = { NextGives };
 
     ghost remaining = { λ s. at_most ((length s.file.now - s.offset) + (s.offset - length s.file.now)) };
 
