@@ -4,3 +4,4 @@ pub mod Reading
 pub mod Room
 pub mod Spelling
 pub mod Telling
+pub mod LineByLine

@@ -5,14 +5,14 @@ use Rattle.std.proofs.lemmas.Fmt.{digits_decimal, decimal_injective}
 use Rattle.std.proofs.lemmas.Str.Parse.{IsDigitsTest, numerals_by_value}
 
 -- each byte is one of the ten digits
-abbrev Digits : List ℕ → Type 0
+abbrev pub Digits : List ℕ → Type 0
 Digits [] = Unit {0}
 Digits (c ∷ cs) = IsInRange 48 57 c × Digits cs
 
 tells : IsDigitsTest Digits
 tells = record { empty = tt; parts = λ c cs ds. ds; more = λ c cs d ds. (d, ds) }
 
-decimal_digits : (n : ℕ) → n < 2 ^ 64 → Digits (decimal n)
+pub decimal_digits : (n : ℕ) → n < 2 ^ 64 → Digits (decimal n)
 decimal_digits n small = digits_decimal (numerals_by_value Digits tells) n small
 
 -- a text that begins with a byte below the digits, and one that begins with a byte above them

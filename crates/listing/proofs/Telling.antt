@@ -64,7 +64,7 @@ unfolding line_of_standing
 open_text k s = refl
 
 -- the number that a formula stands by is small
-abbrev Small : Standing → Type 0
+abbrev pub Small : Standing → Type 0
 Small (Derived n) = n < 2 ^ 64
 Small (Refuted n) = n < 2 ^ 64
 Small Open = Unit {0}
@@ -140,13 +140,13 @@ module _ (g h : ℕ → Standing) (gs : (k : ℕ) → Small (g k)) (hs : (k : �
       (one_more k m first.0 behind.0, behind.1)
 
 -- how a formula of the case stands
-abbrev stands : Case → ℕ → Standing
+abbrev pub stands : Case → ℕ → Standing
 stands c k = standing_by (first_line c k) (first_refutation_of c k)
 
-entered : (c : Case) (k : ℕ) → k < length c.formulas → standing_in c k ≡ Ok (stands c k)
+pub entered : (c : Case) (k : ℕ) → k < length c.formulas → standing_in c k ≡ Ok (stands c k)
 entered c k within = cond-true (Dec.ltb k (length c.formulas)) _ _ (lt-ltb _ _ within)
 
-past : (c : Case) (k : ℕ) → length c.formulas ≤ k → standing_in c k ≡ Err NotEntered
+pub past : (c : Case) (k : ℕ) → length c.formulas ≤ k → standing_in c k ≡ Err NotEntered
 past c k beyond = cond-false (Dec.ltb k (length c.formulas)) _ _ (le-ltb _ _ beyond)
 
 small_by : (derived refuted : Option ℕ) → ((k : ℕ) → derived ≡ Some k → k < 2 ^ 64) → ((k : ℕ) → refuted ≡ Some k → k < 2 ^ 64) → Small (standing_by derived refuted)
@@ -154,7 +154,7 @@ small_by (Some n) refuted lines refutations = lines n refl
 small_by None (Some n) lines refutations = refutations n refl
 small_by None None lines refutations = tt
 
-stands_small : (c : Case) → CountsFit (counts_of c) → (k : ℕ) → Small (stands c k)
+pub stands_small : (c : Case) → CountsFit (counts_of c) → (k : ℕ) → Small (stands c k)
 stands_small c fits k =
     small_by (first_line c k) (first_refutation_of c k)
     (λ n is. omega (arith, found_below _ c.lines n is))

@@ -2,6 +2,7 @@
 ghost use Rattle.std.specs.Prelude.{◌≡◌};
 ghost use Rattle.cases.specs.Model.{sealed};
 ghost use Rattle.listing.specs.Listing.{listing};
+ghost use Rattle.listing.specs.LineByLine.{LinesForSettled};
 ghost use Rattle.listing.specs.Room.{AlwaysRoom};
 ghost use Rattle.listing.specs.Telling.{ListingTells};
 ghost use Rattle.listing.specs.Written.{written_answer, written_after};
@@ -18,7 +19,7 @@ pub const LISTING_MOST: usize = 20_480;
 // Writes the listing to the front of a buffer, and answers its length. All lines are measured before the first is
 // copied, so that a buffer which is too short stays as it is. Into a caller's buffer, and no `Vec`: nothing is
 // allocated after a case is made.
-#[tactic(auto, using(crate::proofs::Room::always_room, crate::proofs::Telling::listing_tells))]
+#[tactic(auto, using(crate::proofs::Room::always_room, crate::proofs::Telling::listing_tells, crate::proofs::LineByLine::lines_for_settled))]
 pub fn write_listing(
     case: &SealedCase,
     ending: Result<usize, Unread>,
@@ -28,6 +29,7 @@ pub fn write_listing(
     ensures after { buffer.new ≡ written_after (listing (sealed case.now) ending) buffer.old }
     ensures enough { AlwaysRoom LISTING_MOST }
     ensures tells { ListingTells }
+    ensures lines { LinesForSettled }
 {
     let first = counts_line(case.counts());
     let last = ending_line(ending);
