@@ -8,7 +8,7 @@ use Rattle.worked.proofs.Together.{◌also◌, all}
 
 one_by_one : AllByRecursion IsGiven verdicts
 unfolding published derived
-one_by_one = refl also refl also refl also refl also refl also refl also refl also refl also refl also refl also refl also refl also refl also refl also refl also refl also refl also refl also refl also refl also refl also refl also refl also refl also refl also refl also refl also refl also refl also refl also refl also refl also tt
+one_by_one = refl also refl also refl also refl also refl also refl also refl also refl also refl also refl also refl also refl also refl also refl also refl also refl also refl also refl also refl also refl also refl also refl also refl also refl also refl also refl also refl also refl also refl also refl also refl also refl also refl also tt
 
 pub verdicts_given : VerdictsGiven
 verdicts_given = all IsGiven verdicts one_by_one

@@ -1,5 +1,5 @@
 -- The example case: a carry that is owed is assumed to be owed at the next position too.
-use Rattle.std.specs.Prelude.{ℕ, List, [], ◌∷◌, Some, None, Option}
+use Rattle.std.specs.Prelude.{ℕ, List, [], ◌∷◌, ◌++◌, Some, None, Option}
 use Rattle.logic.specs.Run.{Run}
 use Rattle.runs.specs.Tables.{table_run}
 use Rattle.runs.specs.Pulses.{pulse_run}
@@ -26,6 +26,25 @@ at_first = table_run (1 ∷ 0 ∷ 1 ∷ 0 ∷ 1 ∷ 0 ∷ 0 ∷ 0 ∷ 0 ∷ 0 �
 -- the pulses with loop 4 and one entry: atom 0, from position 1 on, with period 2 and width 1
 abbrev pub blinks : Run
 blinks = pulse_run (4 ∷ 0 ∷ 0 ∷ 0 ∷ 1 ∷ 0 ∷ 2 ∷ 0 ∷ 1 ∷ 0 ∷ [])
+
+-- the table with stem 2, loop 3 and a word for each position: of the atoms 0, 6, 9, 14, 17, 22, 25 and 31 each is true at one position alone
+abbrev pub bits_apart : Run
+bits_apart =
+    table_run
+    ((2 ∷ 0 ∷ 3 ∷ 0 ∷ [])
+    ++ (0 ∷ 2 ∷ 0 ∷ 0 ∷ [])
+    ++ (1 ∷ 0 ∷ 2 ∷ 0 ∷ [])
+    ++ (0 ∷ 64 ∷ 0 ∷ 2 ∷ [])
+    ++ (0 ∷ 0 ∷ 64 ∷ 128 ∷ [])
+    ++ (64 ∷ 0 ∷ 0 ∷ 0 ∷ []))
+
+-- the pulses with loop 24 and two entries: atom 9, from position 3 on, with period 8 and width 2, and atom 17, from 5 on, with period 12 and width 1
+abbrev pub fields_apart : Run
+fields_apart =
+    pulse_run
+    ((24 ∷ 0 ∷ [])
+    ++ (9 ∷ 0 ∷ 3 ∷ 0 ∷ 8 ∷ 0 ∷ 2 ∷ 0 ∷ [])
+    ++ (17 ∷ 0 ∷ 5 ∷ 0 ∷ 12 ∷ 0 ∷ 1 ∷ 0 ∷ []))
 
 -- how many scratch words there are
 abbrev pub words : ℕ

@@ -1,5 +1,5 @@
 -- Small files, and what is listed of each.
-use Rattle.std.specs.Prelude.{◌≡◌, ℕ, List, [], ◌∷◌, ◌++◌, All, codes, replicate}
+use Rattle.std.specs.Prelude.{◌≡◌, ℕ, zero, suc, ◌+◌, ◌-◌, ◌/◌, ◌%◌, List, [], ◌∷◌, ◌++◌, length, All, codes, replicate}
 use Rattle.model.specs.Case.{empty}
 use Rattle.listing.specs.Listing.{line}
 use Rattle.checker.specs.Checked.{file_listing}
@@ -15,6 +15,54 @@ listed bytes text = record { bytes = bytes; text = text }
 -- the definitions that the program is proved to meet give this text
 abbrev pub IsListed : FileRow → Type 0
 IsListed row = file_listing empty (replicate 4096 0) row.bytes ≡ row.text
+
+-- the records of a formula, by its kind and two fields below 256, and of an assumption; and the seal
+abbrev form_record : ℕ → ℕ → ℕ → List ℕ
+form_record kind left right = 5 ∷ 0 ∷ 1 ∷ 0 ∷ kind ∷ left ∷ 0 ∷ right ∷ 0 ∷ []
+
+abbrev assume_record : ℕ → List ℕ
+assume_record f = 2 ∷ 0 ∷ 2 ∷ 0 ∷ f ∷ 0 ∷ []
+
+abbrev seal_record : List ℕ
+seal_record = 0 ∷ 0 ∷ 3 ∷ 0 ∷ []
+
+-- the record of a line by rule 0, and of one by rule 1: neither has premises
+abbrev assumed_line : ℕ → List ℕ
+assumed_line f = 8 ∷ 0 ∷ 4 ∷ 0 ∷ 0 ∷ 0 ∷ f ∷ 0 ∷ 255 ∷ 255 ∷ 255 ∷ 255 ∷ []
+
+abbrev taut_line : ℕ → List ℕ
+taut_line f = 8 ∷ 0 ∷ 4 ∷ 0 ∷ 1 ∷ 0 ∷ f ∷ 0 ∷ 255 ∷ 255 ∷ 255 ∷ 255 ∷ []
+
+-- the records of a refutation, by a formula, a position and the bytes of a table or of pulses
+abbrev table_record : ℕ → ℕ → List ℕ → List ℕ
+table_record f i run = (4 + length run) ∷ 0 ∷ 5 ∷ 0 ∷ f ∷ 0 ∷ i ∷ 0 ∷ run
+
+abbrev pulse_record : ℕ → ℕ → List ℕ → List ℕ
+pulse_record f i run = (4 + length run) ∷ 0 ∷ 6 ∷ 0 ∷ f ∷ 0 ∷ i ∷ 0 ∷ run
+
+-- n records, one after another
+abbrev many : ℕ → (ℕ → List ℕ) → List ℕ
+many zero record_of = []
+many (suc n) record_of = many n record_of ++ record_of n
+
+-- the bytes of a table with loop 3, where the atoms 9, 17 and 25 are true at the positions 0, 1 and 2
+abbrev three_words : List ℕ
+three_words = (0 ∷ 0 ∷ 3 ∷ 0 ∷ []) ++ (0 ∷ 2 ∷ 0 ∷ 0 ∷ []) ++ (0 ∷ 0 ∷ 2 ∷ 0 ∷ []) ++ (0 ∷ 0 ∷ 0 ∷ 2 ∷ [])
+
+-- the bytes of pulses with loop 24: atom 9 from position 3 on, with period 8 and width 2, and atom 17 from 5 on, with period 12 and width 1
+abbrev two_entries : List ℕ
+two_entries = (24 ∷ 0 ∷ []) ++ (9 ∷ 0 ∷ 3 ∷ 0 ∷ 8 ∷ 0 ∷ 2 ∷ 0 ∷ []) ++ (17 ∷ 0 ∷ 5 ∷ 0 ∷ 12 ∷ 0 ∷ 1 ∷ 0 ∷ [])
+
+-- a formula with a number, refuted at a position of these: v9, v17 and v25 are entered for the table, v9 and v17 for the pulses
+abbrev along_table : ℕ → ℕ → List ℕ
+along_table f i = form_record 1 9 0 ++ form_record 1 17 0 ++ form_record 1 25 0 ++ seal_record ++ table_record f i three_words
+
+abbrev along_pulses : ℕ → ℕ → List ℕ
+along_pulses f i = form_record 1 9 0 ++ form_record 1 17 0 ++ seal_record ++ pulse_record f i two_entries
+
+-- the bytes of pulses with loop 255 and one entry, of atom 0 at each 255th position from a first one on
+abbrev rare : ℕ → List ℕ
+rare first = (255 ∷ 0 ∷ []) ++ (0 ∷ 0 ∷ first ∷ 0 ∷ 255 ∷ 0 ∷ 1 ∷ 0 ∷ [])
 
 abbrev pub files : List FileRow
 files =
@@ -140,6 +188,63 @@ files =
     ++ line (codes "4 refuted 0")
     ++ line (codes "5 derived 2")
     ++ line (codes "read 116"))
+    -- a formula of kind 5
+    ∷ listed
+    (form_record 5 0 0
+    ++ seal_record)
+    (line (codes "formulas 0 assumptions 0 lines 0 refutations 0")
+    ++ line (codes "refused 3 1 0"))
+    -- an assumption that is false on the run
+    ∷ listed
+    (form_record 1 0 0
+    ++ form_record 0 0 0
+    ++ assume_record 0
+    ++ seal_record
+    ++ table_record 1 0 (0 ∷ 0 ∷ 1 ∷ 0 ∷ 0 ∷ 0 ∷ 0 ∷ 0 ∷ []))
+    (line (codes "formulas 2 assumptions 1 lines 0 refutations 0")
+    ++ line (codes "refused 3 13 28"))
+    -- v9, v17 and v25 along a table with three words: none is refuted where it is true
+    ∷ listed (along_table 0 0)
+    (line (codes "formulas 3 assumptions 0 lines 0 refutations 0")
+    ++ line (codes "refused 3 14 31"))
+    ∷ listed (along_table 1 1)
+    (line (codes "formulas 3 assumptions 0 lines 0 refutations 0")
+    ++ line (codes "refused 3 14 31"))
+    ∷ listed (along_table 2 2)
+    (line (codes "formulas 3 assumptions 0 lines 0 refutations 0")
+    ++ line (codes "refused 3 14 31"))
+    -- and each is where another one is
+    ∷ listed (along_table 0 1)
+    (line (codes "formulas 3 assumptions 0 lines 0 refutations 1")
+    ++ line (codes "0 refuted 0")
+    ++ line (codes "read 55"))
+    ∷ listed (along_table 1 2)
+    (line (codes "formulas 3 assumptions 0 lines 0 refutations 1")
+    ++ line (codes "1 refuted 0")
+    ++ line (codes "read 55"))
+    ∷ listed (along_table 2 0)
+    (line (codes "formulas 3 assumptions 0 lines 0 refutations 1")
+    ++ line (codes "2 refuted 0")
+    ++ line (codes "read 55"))
+    -- v9 and v17 along two pulses: v9 is refuted before it is on, and not while it is on, also 8 positions later
+    ∷ listed (along_pulses 0 2)
+    (line (codes "formulas 2 assumptions 0 lines 0 refutations 1")
+    ++ line (codes "0 refuted 0")
+    ++ line (codes "read 48"))
+    ∷ listed (along_pulses 0 4)
+    (line (codes "formulas 2 assumptions 0 lines 0 refutations 0")
+    ++ line (codes "refused 3 14 22"))
+    ∷ listed (along_pulses 0 12)
+    (line (codes "formulas 2 assumptions 0 lines 0 refutations 0")
+    ++ line (codes "refused 3 14 22"))
+    -- so is v17, which is on 12 positions later
+    ∷ listed (along_pulses 1 16)
+    (line (codes "formulas 2 assumptions 0 lines 0 refutations 1")
+    ++ line (codes "1 refuted 0")
+    ++ line (codes "read 48"))
+    ∷ listed (along_pulses 1 17)
+    (line (codes "formulas 2 assumptions 0 lines 0 refutations 0")
+    ++ line (codes "refused 3 14 22"))
     -- as many bytes as a file may have; no record is of kind 0
     ∷ listed (replicate 16384 0)
     (line (codes "formulas 0 assumptions 0 lines 0 refutations 0")
@@ -150,6 +255,135 @@ files =
     ++ line (codes "too long"))
     ∷ []
 
+-- sixteen assumptions
+unfoldable pub sixteen_assumptions : FileRow
+sixteen_assumptions =
+    listed
+    (many 17 (λ a. form_record 1 a 0)
+    ++ many 16 assume_record
+    ++ seal_record)
+    (line (codes "formulas 17 assumptions 16 lines 0 refutations 0")
+    ++ line (codes "read 253"))
+
+-- a seventeenth
+unfoldable pub seventeen_assumptions : FileRow
+seventeen_assumptions =
+    listed
+    (many 17 (λ a. form_record 1 a 0)
+    ++ many 17 assume_record
+    ++ seal_record)
+    (line (codes "formulas 17 assumptions 16 lines 0 refutations 0")
+    ++ line (codes "refused 3 5 249"))
+
+-- twelve prime parts, of which no tautology is made: v0 → (v1 → .. (v10 → v11))
+unfoldable pub twelve_prime_parts : FileRow
+twelve_prime_parts =
+    listed
+    (many 12 (λ a. form_record 1 a 0)
+    ++ many 11 (λ k. form_record 2 (10 - k) (11 + k))
+    ++ seal_record
+    ++ taut_line 22)
+    (line (codes "formulas 23 assumptions 0 lines 0 refutations 0")
+    ++ line (codes "refused 3 8 211"))
+
+-- thirteen are beyond the limit
+unfoldable pub thirteen_prime_parts : FileRow
+thirteen_prime_parts =
+    listed
+    (many 13 (λ a. form_record 1 a 0)
+    ++ many 12 (λ k. form_record 2 (11 - k) (12 + k))
+    ++ seal_record
+    ++ taut_line 24)
+    (line (codes "formulas 25 assumptions 0 lines 0 refutations 0")
+    ++ line (codes "refused 3 9 229"))
+
+-- a run of 256 positions, at the last of them
+unfoldable pub last_of_256_positions : FileRow
+last_of_256_positions =
+    listed
+    (form_record 1 0 0
+    ++ seal_record
+    ++ pulse_record 0 255 (rare 1))
+    (line (codes "formulas 1 assumptions 0 lines 0 refutations 1")
+    ++ line (codes "0 refuted 0")
+    ++ line (codes "read 31"))
+
+-- behind it
+unfoldable pub behind_the_last : FileRow
+behind_the_last =
+    listed
+    (form_record 1 0 0
+    ++ seal_record
+    ++ pulse_record 0 0 (rare 1)
+    ++ pulse_record 0 255 (rare 0))
+    (line (codes "formulas 1 assumptions 0 lines 0 refutations 1")
+    ++ line (codes "0 refuted 0")
+    ++ line (codes "refused 3 11 31"))
+
+-- a run of 257 positions
+unfoldable pub run_of_257_positions : FileRow
+run_of_257_positions =
+    listed
+    (form_record 1 0 0
+    ++ seal_record
+    ++ pulse_record 0 0 (rare 2))
+    (line (codes "formulas 1 assumptions 0 lines 0 refutations 0")
+    ++ line (codes "refused 3 10 13"))
+
+-- one line more than a case holds: v0, assumed, by rule 0
+unfoldable pub lines_513 : FileRow
+lines_513 =
+    listed
+    (form_record 1 0 0
+    ++ assume_record 0
+    ++ seal_record
+    ++ many 513 (λ _. assumed_line 0))
+    (line (codes "formulas 1 assumptions 1 lines 512 refutations 0")
+    ++ line (codes "0 derived 0")
+    ++ line (codes "refused 3 7 6163"))
+
+-- one formula more than a case takes: 32 atoms, and 993 implications
+unfoldable pub formulas_1025 : FileRow
+formulas_1025 =
+    listed
+    (many 32 (λ a. form_record 1 a 0)
+    ++ many 993 (λ k. form_record 2 (k / 32) (k % 32))
+    ++ seal_record)
+    (line (codes "formulas 1024 assumptions 0 lines 0 refutations 0")
+    ++ line (codes "refused 3 3 9216"))
+
+-- 258 formulas, the last one v7 → v1: assumed, and held by rule 0
+unfoldable pub formula_257 : FileRow
+formula_257 =
+    listed
+    (many 32 (λ a. form_record 1 a 0)
+    ++ many 226 (λ k. form_record 2 (k / 32) (k % 32))
+    ++ (2 ∷ 0 ∷ 2 ∷ 0 ∷ 1 ∷ 1 ∷ [])
+    ++ seal_record
+    ++ (8 ∷ 0 ∷ 4 ∷ 0 ∷ 0 ∷ 0 ∷ 1 ∷ 1 ∷ 255 ∷ 255 ∷ 255 ∷ 255 ∷ []))
+    (line (codes "formulas 258 assumptions 1 lines 1 refutations 0")
+    ++ line (codes "257 derived 0")
+    ++ line (codes "read 2344"))
+
+-- 258 lines: v0, assumed, is held by rule 0 in all but the last, which is ○v0 by rule 6 from line 256
+unfoldable pub line_257 : FileRow
+line_257 =
+    listed
+    (form_record 1 0 0
+    ++ form_record 3 0 0
+    ++ assume_record 0
+    ++ seal_record
+    ++ many 257 (λ _. assumed_line 0)
+    ++ (8 ∷ 0 ∷ 4 ∷ 0 ∷ 6 ∷ 0 ∷ 1 ∷ 0 ∷ 0 ∷ 1 ∷ 255 ∷ 255 ∷ []))
+    (line (codes "formulas 2 assumptions 1 lines 258 refutations 0")
+    ++ line (codes "0 derived 0")
+    ++ line (codes "1 derived 257")
+    ++ line (codes "read 3124"))
+
+-- files that are the last within a limit, or the first beyond it, and two with numbers above 255
+abbrev pub limit_files : List FileRow
+limit_files = sixteen_assumptions ∷ seventeen_assumptions ∷ twelve_prime_parts ∷ thirteen_prime_parts ∷ last_of_256_positions ∷ behind_the_last ∷ run_of_257_positions ∷ lines_513 ∷ formulas_1025 ∷ formula_257 ∷ line_257 ∷ []
+
 -- every row is listed so
 abbrev pub FilesListed : Type 0
-FilesListed = All IsListed files
+FilesListed = All IsListed files × All IsListed limit_files

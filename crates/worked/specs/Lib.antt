@@ -5,3 +5,4 @@ pub mod Files
 pub mod Verdicts
 pub mod Truths
 pub mod Hypotheses
+pub mod Numbers

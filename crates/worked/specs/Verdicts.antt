@@ -40,6 +40,12 @@ verdicts =
     None
     None
     BeyondLimit
+    -- twelve are within the limit
+    ∷ step 1
+    (implies (v 0) (implies (v 1) (implies (v 2) (implies (v 3) (implies (v 4) (implies (v 5) (implies (v 6) (implies (v 7) (implies (v 8) (implies (v 9) (implies (v 10) (v 11))))))))))))
+    None
+    None
+    NotAdmitted
     -- ltl1, and one half of it
     ∷ step 2 (iff (not (next (v 0))) (next (not (v 0)))) None None Admitted
     ∷ step 2 (implies (not (next (v 0))) (next (not (v 0)))) None None NotAdmitted

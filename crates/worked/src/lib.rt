@@ -4,6 +4,7 @@
 
 ghost use Rattle.worked.specs.Files.{FilesListed};
 ghost use Rattle.worked.specs.Hypotheses.{HypothesesMet};
+ghost use Rattle.worked.specs.Numbers.{NumbersTold};
 ghost use Rattle.worked.specs.Table.{WorkedExamples};
 ghost use Rattle.worked.specs.Truths.{TruthsTold};
 ghost use Rattle.worked.specs.Verdicts.{VerdictsGiven};
@@ -30,6 +31,12 @@ pub fn verdicts_given()
 #[tactic(auto, using(crate::proofs::Truths::truths_told))]
 pub fn truths_told()
     ensures { TruthsTold }
+{}
+
+// What a caller is told by each number.
+#[tactic(auto, using(crate::proofs::Numbers::numbers_told))]
+pub fn numbers_told()
+    ensures { NumbersTold }
 {}
 
 // Promises that ask for something ask for what the example case has.
