@@ -12,7 +12,7 @@ use Rattle.model.specs.Lines as lines
 use Rattle.model.specs.Judging as judging
 use Rattle.worked.specs.Asking.{RowHolds}
 use Rattle.worked.proofs.Together.{◌also◌, all}
-use Rattle.worked.specs.Table.{table, WorkedExamples}
+use Rattle.worked.specs.Table.{table, limits, WorkedExamples}
 
 one_by_one : AllByRecursion RowHolds table
 unfolding calls.form calls.assume form_answer form_after published derived lines.line judging.truth judging.refute table_check table_run pulse_check pulse_run first_false_from first_failing
@@ -29,5 +29,12 @@ one_by_one =
     also (refl also refl also refl also refl also refl also tt)
     also tt
 
+limits_hold : AllByRecursion RowHolds limits
+unfolding calls.form calls.assume form_answer form_after published derived lines.line judging.truth judging.refute table_check table_run pulse_check pulse_run first_false_from first_failing
+limits_hold =
+    (refl also refl also tt)
+    also (refl also refl also refl also refl also tt)
+    also tt
+
 pub worked_examples : WorkedExamples
-worked_examples = all RowHolds table one_by_one
+worked_examples = (all RowHolds table one_by_one, all RowHolds limits limits_hold)

@@ -380,7 +380,7 @@ line_257 =
     ++ line (codes "1 derived 257")
     ++ line (codes "read 3124"))
 
--- files that are the last within a limit, or the first beyond it, and two with numbers above 255
+-- files within a limit and beyond it, and two with numbers above 255
 abbrev pub limit_files : List FileRow
 limit_files = sixteen_assumptions ∷ seventeen_assumptions ∷ twelve_prime_parts ∷ thirteen_prime_parts ∷ last_of_256_positions ∷ behind_the_last ∷ run_of_257_positions ∷ lines_513 ∷ formulas_1025 ∷ formula_257 ∷ line_257 ∷ []
 

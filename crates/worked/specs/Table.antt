@@ -1,9 +1,9 @@
--- The worked examples, ten rows of what is asked of the example case and what is answered.
-use Rattle.std.specs.Prelude.{true, false, List, [], ◌∷◌, Some, None, All}
-use Rattle.refusals.specs.declared.Refusal.TheVariants.{NotAdmitted, AssumptionFalse}
+-- The worked examples, ten rows of what is asked of the example case and what is answered, and limits of a case.
+use Rattle.std.specs.Prelude.{true, false, List, [], ◌∷◌, Some, None, All, replicate}
+use Rattle.refusals.specs.declared.Refusal.TheVariants.{NotAdmitted, ScratchTooShort, AssumptionFalse, RefutationsFull}
 use Rattle.model.specs.History.{sealed_stage, form, truth, refute, History}
 use Rattle.worked.specs.Asking.{number, value, refused, Exchange, ◌gives◌, Row, RowHolds}
-use Rattle.worked.specs.Example.{by_rule, never, at_first, blinks, words, sealed, two_lines, three_lines, example}
+use Rattle.worked.specs.Example.{with_calls, by_rule, never, at_first, blinks, words, sealed, two_lines, three_lines, example}
 
 abbrev row : History sealed_stage → List Exchange → Row
 row before exchanges = record { before = before; exchanges = exchanges }
@@ -38,6 +38,23 @@ table =
     ∷ [])
     ∷ []
 
+-- limits that no small file reaches
+abbrev pub limits : List Row
+limits =
+    -- of 64 refutations the last has the number 63, and a case holds no more
+    row (with_calls example (replicate 62 (refute never 4 0 words)))
+    (refute never 4 0 words gives number 63
+    ∷ refute never 4 0 words gives refused 15 RefutationsFull
+    ∷ [])
+    -- six formulas need 24 scratch words
+    ∷ row example
+    (truth never 4 0 24 gives value false
+    ∷ truth never 4 0 23 gives refused 12 ScratchTooShort
+    ∷ refute never 4 0 24 gives number 1
+    ∷ refute never 4 0 23 gives refused 12 ScratchTooShort
+    ∷ [])
+    ∷ []
+
 -- every row holds
 abbrev pub WorkedExamples : Type 0
-WorkedExamples = All RowHolds table
+WorkedExamples = All RowHolds table × All RowHolds limits
