@@ -12,12 +12,12 @@ use Rattle.logic.specs.Same.{same}
 use Rattle.formulas.specs.declared.entry.Entry.{Entry}
 use Rattle.formulas.specs.declared.entry.Entry.TheVariants.{False}
 use Rattle.formulas.specs.Adding.{Distinct, place, number_for, add_answer, add_after}
-use Rattle.formulas.specs.Entries.{placed, asked, Lower}
+use Rattle.formulas.specs.Entries.{placed, alike, asked, Lower}
 use Rattle.formulas.specs.Decode.{of_entry, formula_at, decoded}
-use Rattle.formulas.specs.Forming.{numbered, answer_for, after_for, form_answer, form_after}
+use Rattle.formulas.specs.Forming.{numbered, answer_for, after_for, entries_for, form_answer, form_after, entries_after}
 use Rattle.formulas.proofs.Members.{some_same, nth_within, distinct_push}
-use Rattle.formulas.proofs.Places.{place_is, place_only, place_none, none_there}
-use Rattle.formulas.proofs.Likeness.{same_tells, entry_eq, entry_tells}
+use Rattle.formulas.proofs.Places.{place_is, place_only, place_none, none_there, same_place}
+use Rattle.formulas.proofs.Likeness.{same_tells, entry_eq, entry_tells, alike_tells}
 use Rattle.formulas.proofs.Decoded.{of_entry_same, of_entry_injective, formula_at_is, formula_kept, formula_injective, decoded_length, decoded_at, decoded_nth}
 use Rattle.formulas.proofs.Asked.{asked_fine, lower_push}
 
@@ -25,6 +25,7 @@ use Rattle.formulas.proofs.Asked.{asked_fine, lower_push}
 pub record Formed (es es' : List Entry) (kind left right : ℕ) (r : Result ℕ Refusal) : Type 0 where
   pub answer : r ≡ form_answer (decoded es) kind left right
   pub after : decoded es' ≡ form_after (decoded es) kind left right
+  pub entries : es' ≡ entries_after es kind left right
   pub distinct : Distinct (decoded es')
   pub apart : Distinct es'
   pub lower : Lower es'
@@ -105,8 +106,12 @@ module _ (es : List Entry) (low : Lower es) (distinct : Distinct es) where
         ∙ ap (λ (A : Formula). add_after 1024 (decoded es) A (place same (decoded es) A)) (meant e fine)
         ∙ ap (add_after 1024 (decoded es) (of_entry (formula_at es) e)) (places e fine o found))
 
+    entries_are : (o : Option ℕ) → place entry_eq es e ≡ o → add_after 1024 es e o ≡ entries_after es kind left right
+    unfolding entries_after
+    entries_are o found = sym (ap (entries_for es) is ∙ ap (add_after 1024 es e) (same_place alike entry_eq alike_tells entry_tells es e ∙ found))
+
     formed_old : (i : ℕ) → place entry_eq es e ≡ Some i → Formed es es kind left right (Ok i)
-    formed_old i found = record { answer = answer_is (Some i) found; after = after_is (Some i) found; distinct = decoded_distinct; apart = distinct; lower = low }
+    formed_old i found = record { answer = answer_is (Some i) found; after = after_is (Some i) found; entries = entries_are (Some i) found; distinct = decoded_distinct; apart = distinct; lower = low }
 
     module _ (found : place entry_eq es e ≡ None) where
       none_before : (k : ℕ) → slice_get es k ≡ Some e → ⊥
@@ -118,6 +123,7 @@ module _ (es : List Entry) (low : Lower es) (distinct : Distinct es) where
           record {
             answer = sym (cond-false (ltb (length (decoded es)) 1024) _ _ b) ∙ answer_is None found;
             after = sym (cond-false (ltb (length (decoded es)) 1024) _ _ b) ∙ after_is None found;
+            entries = sym (cond-false (ltb (length es) 1024) _ _ (le-ltb (length es) 1024 full)) ∙ entries_are None found;
             distinct = decoded_distinct;
             apart = distinct;
             lower = low;
@@ -144,6 +150,7 @@ formed_new es low distinct kind left right e is found room =
       after =
           decoded_push es low distinct e (fine es low distinct kind left right e is)
           ∙ sym (cond-true (ltb (length (decoded es)) 1024) _ _ b) ∙ after_is es low distinct kind left right e is None found;
+      entries = sym (cond-true (ltb (length es) 1024) _ _ (lt-ltb (length es) 1024 room)) ∙ entries_are es low distinct kind left right e is None found;
       distinct = decoded_distinct (es ++ e ∷ []) lower apart;
       apart = apart;
       lower = lower;
@@ -162,12 +169,13 @@ formed es low distinct kind left right e is None found =
 
 -- what is refused before an entry is there changes nothing
 pub formed_refused : (es : List Entry) (low : Lower es) (distinct : Distinct es) (kind left right : ℕ) (x : Refusal) → asked (length es) kind left right ≡ Err x → Formed es es kind left right (Err x)
-unfolding form_answer form_after
+unfolding form_answer form_after entries_after
 formed_refused es low distinct kind left right x is =
     let here : asked (length (decoded es)) kind left right ≡ Err x = ap (λ (n : ℕ). asked n kind left right) (decoded_length es) ∙ is in
     record {
       answer = sym (ap (answer_for (decoded es)) here);
       after = sym (ap (after_for (decoded es)) here);
+      entries = sym (ap (entries_for es) is);
       distinct = decoded_distinct es low distinct;
       apart = distinct;
       lower = low;

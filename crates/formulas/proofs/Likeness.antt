@@ -1,10 +1,11 @@
 -- Tests of likeness that are equality: of numbers, entries and formulas.
-use Rattle.std.proofs.Common.{◌≡◌, Bool, true, eqb, refl, ap}
+use Rattle.std.proofs.Common.{◌≡◌, ℕ, zero, suc, Bool, true, ◌&&◌, eqb, refl, sym, ap, ◌∙◌}
 use Rattle.std.proofs.lemmas.Bool.{and_parts, and_from, eqb-true, eq-eqb, false≢true}
 use Rattle.logic.specs.Same.{same}
 use Rattle.logic.proofs.Same.{same_true, same_refl}
 use Rattle.formulas.specs.declared.entry.Entry.{Entry}
 use Rattle.formulas.specs.declared.entry.Entry.TheVariants.{False, Atom, Implies, Next, Always}
+use Rattle.formulas.specs.Entries.{kind_of, left_of, right_of, alike}
 use Rattle.formulas.specs.contracts.entry.EntryPartialEq.TheImpl.{eq-value}
 use Rattle.formulas.proofs.Places.{IsEquality}
 
@@ -58,3 +59,34 @@ entry_itself (Always a) = eq-eqb a a refl
 
 pub entry_tells : IsEquality entry_eq
 entry_tells = record { sound = entry_sound; itself = entry_itself }
+
+-- an entry is told by its kind and its two fields
+with_fields : ℕ → ℕ → ℕ → Entry
+with_fields zero l r = False
+with_fields (suc zero) l r = Atom l
+with_fields (suc (suc zero)) l r = Implies l r
+with_fields (suc (suc (suc zero))) l r = Next l
+with_fields (suc (suc (suc (suc n)))) l r = Always l
+
+told_by_fields : (e : Entry) → with_fields (kind_of e) (left_of e) (right_of e) ≡ e
+unfolding with_fields
+told_by_fields False = refl
+told_by_fields (Atom a) = refl
+told_by_fields (Implies a b) = refl
+told_by_fields (Next a) = refl
+told_by_fields (Always a) = refl
+
+alike_sound : (e f : Entry) → alike e f ≡ true → e ≡ f
+alike_sound e f h =
+    let p = and_parts (eqb (kind_of e) (kind_of f)) (eqb (left_of e) (left_of f) && eqb (right_of e) (right_of f)) h in
+    let q = and_parts (eqb (left_of e) (left_of f)) (eqb (right_of e) (right_of f)) p.1 in
+    let kind = eqb-true (kind_of e) (kind_of f) p.0 in
+    let left = eqb-true (left_of e) (left_of f) q.0 in
+    let right = eqb-true (right_of e) (right_of f) q.1 in
+    sym (told_by_fields e) ∙ (λ i. with_fields (kind i) (left i) (right i)) ∙ told_by_fields f
+
+alike_itself : (e : Entry) → alike e e ≡ true
+alike_itself e = and_from _ _ (eq-eqb (kind_of e) (kind_of e) refl) (and_from _ _ (eq-eqb (left_of e) (left_of e) refl) (eq-eqb (right_of e) (right_of e) refl))
+
+pub alike_tells : IsEquality alike
+alike_tells = record { sound = alike_sound; itself = alike_itself }

@@ -29,6 +29,10 @@ right_of (Implies a b) = b
 right_of (Next a) = 0
 right_of (Always a) = 0
 
+-- two entries are alike that have one kind and the same two fields
+abbrev pub alike : Entry → Entry → Bool
+alike e f = kind_of e == kind_of f && (left_of e == left_of f && right_of e == right_of f)
+
 -- whether an entry may stand behind n others: an atom is at most 31, and operands have lower numbers
 abbrev pub placed : ℕ → Entry → Bool
 placed n False = true

@@ -6,7 +6,7 @@ use Rattle.logic.specs.Formula.{Formula, falsum}
 use Rattle.logic.specs.Same.{same}
 use Rattle.formulas.specs.declared.entry.Entry.{Entry}
 use Rattle.formulas.specs.Adding.{place, add_answer, add_after}
-use Rattle.formulas.specs.Entries.{asked}
+use Rattle.formulas.specs.Entries.{alike, asked}
 use Rattle.formulas.specs.Decode.{of_entry}
 
 -- the formula with a number
@@ -29,9 +29,17 @@ abbrev pub after_for : List Formula → Result Entry Refusal → List Formula
 after_for fs (Ok e) = enter_after fs (of_entry (numbered fs) e)
 after_for fs (Err x) = fs
 
--- what `form` answers, and the formulas afterwards
+-- the entries, where an entry is asked for or refused already
+abbrev pub entries_for : List Entry → Result Entry Refusal → List Entry
+entries_for es (Ok e) = add_after 1024 es e (place alike es e)
+entries_for es (Err x) = es
+
+-- what `form` answers, and the formulas and the entries afterwards
 unfoldable pub form_answer : List Formula → ℕ → ℕ → ℕ → Result ℕ Refusal
 form_answer fs kind left right = answer_for fs (asked (length fs) kind left right)
 
 unfoldable pub form_after : List Formula → ℕ → ℕ → ℕ → List Formula
 form_after fs kind left right = after_for fs (asked (length fs) kind left right)
+
+unfoldable pub entries_after : List Entry → ℕ → ℕ → ℕ → List Entry
+entries_after es kind left right = entries_for es (asked (length es) kind left right)

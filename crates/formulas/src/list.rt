@@ -24,7 +24,7 @@ impl FormulaList {
     ghost use Rattle.std.specs.Prelude.{◌≡◌, [], length, IfOk};
     ghost use Rattle.std.specs.List.{slice_get};
     ghost use Rattle.formulas.specs.Adding.{Distinct};
-    ghost use Rattle.formulas.specs.Forming.{form_answer, form_after};
+    ghost use Rattle.formulas.specs.Forming.{entries_after, form_answer, form_after};
     ghost use Rattle.formulas.specs.Listed.{entries_of, formulas_of};
 
     // An empty list, with memory for all that it will ever hold.
@@ -64,6 +64,7 @@ impl FormulaList {
     pub fn form(&mut self, kind: u8, left: u16, right: u16) -> Result<u16, Refusal>
         ensures answer { result ≡ form_answer (formulas_of self.old) kind left right }
         ensures after { formulas_of self.new ≡ form_after (formulas_of self.old) kind left right }
+        ensures entries { entries_of self.new ≡ entries_after (entries_of self.old) kind left right }
         ensures distinct { Distinct (formulas_of self.new) }
     {
         let entry = Entry::asked_for(self.len(), kind, left, right)?;

@@ -1,5 +1,5 @@
 -- A pulse run is as its bytes give it: pulses go on behind the loop's end as they do before it.
-use Rattle.std.proofs.Common.{◌≡◌, ℕ, suc, ◌+◌, ◌-◌, ◌/◌, ◌%◌, ◌<◌, ◌≤◌, true, List, length, drop, sym, ap, ◌∙◌, inl, inr, ⊎_elim, arith, length-drop}
+use Rattle.std.proofs.Common.{◌≡◌, ℕ, suc, ◌+◌, ◌-◌, ◌*◌, ◌/◌, ◌%◌, ◌<◌, ◌≤◌, true, List, length, drop, Ok, ◌⊎◌, ◌↔◌, sym, ap, ◌∙◌, subst, inl, inr, ⊎_elim, arith, length-drop}
 use native.Mathlib.Nat.{add-mod-mod, mod-mod_of_dvd, dvd_of_mod-eq-zero}
 use Rattle.std.proofs.lemmas.Bool.{cases_lt}
 use Rattle.std.proofs.lemmas.Bool.Decides.{nat_tests}
@@ -7,8 +7,9 @@ use Rattle.runs.specs.declared.pulse.Pulse.{Pulse}
 use Rattle.runs.specs.AsGiven.{PulsesAllAlong}
 use Rattle.runs.specs.Bytes.{word}
 use Rattle.runs.specs.Looping.{folded}
-use Rattle.runs.specs.Pulses.{pulse_at, on, pulsed, latest, pulse_run}
+use Rattle.runs.specs.Pulses.{pulse_at, on, pulsed, latest, pulse_check, pulse_run}
 use Rattle.runs.proofs.Passing.{pulses_passed, pulses_passed_run}
+use Rattle.runs.proofs.Placed.{pulses_stand}
 use Rattle.runs.proofs.Pulsing.{each_allowed, latest_least, latest_one, pulsed_by, pulsing}
 
 -- a part that the period divides can be left out
@@ -31,8 +32,22 @@ on_folded e stem loop i f d =
     grind (arith, nat_tests))
     (cases_lt i stem)
 
-pub pulses_all_along : (bytes : List ℕ) → PulsesAllAlong bytes
-pulses_all_along bytes p =
+-- the same of the pulses as they are read
+abbrev AllAlong : List ℕ → (ℕ → Pulse) → Type 0
+AllAlong bytes pulses =
+    ((pulse_run bytes).loop ≡ word bytes 0)
+    × ((k : ℕ) → 2 + 8 * k < length bytes → (pulses k).first ≤ (pulse_run bytes).stem)
+    × (((k : ℕ) × (2 + 8 * k < length bytes) × ((pulses k).first ≡ (pulse_run bytes).stem)) ⊎ ((pulse_run bytes).stem ≡ 0))
+    × ((a i : ℕ)
+    → ((pulse_run bytes).says a i ≡ true)
+    ↔ ((k : ℕ)
+    × (2 + 8 * k < length bytes)
+    × ((pulses k).atom ≡ a)
+    × ((pulses k).first ≤ i)
+    × ((i - (pulses k).first) % (pulses k).period < (pulses k).width)))
+
+all_along : (bytes : List ℕ) → pulse_check bytes ≡ Ok tt → AllAlong bytes (pulse_at (drop 2 bytes))
+all_along bytes p =
     let entries : List ℕ = drop 2 bytes in
     let pulses : ℕ → Pulse = pulse_at entries in
     let n : ℕ = length entries / 8 in
@@ -62,3 +77,6 @@ pulses_all_along bytes p =
                 says ∙ pulsed_by pulses n a (folded stem (word bytes 0) i) k l h.2 (same k l ∙ on_now),
           ),
     )
+
+pub pulses_all_along : (bytes : List ℕ) → PulsesAllAlong bytes
+pulses_all_along bytes p = subst (AllAlong bytes) (pulses_stand bytes) (all_along bytes p)

@@ -8,3 +8,5 @@ pub mod Chunks
 pub mod Arrays
 pub mod Finding
 mod Doubling
+mod Growing
+pub mod Placed

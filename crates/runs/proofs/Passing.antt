@@ -8,8 +8,8 @@ use Rattle.logic.specs.Run.{Run}
 use Rattle.runs.specs.declared.fault.RunFault.{RunFault}
 use Rattle.runs.specs.Bytes.{word}
 use Rattle.runs.specs.AsGiven.{SilentOtherwise}
-use Rattle.runs.specs.Looping.{looped, when_run}
-use Rattle.runs.specs.Meanings.{GivesRun}
+use Rattle.runs.specs.Looping.{looped, run_or_fault, when_run}
+use Rattle.runs.specs.Meanings.{meant}
 use Rattle.runs.specs.Pulses.{pulse_at, pulse_in, pulsed, latest, in_order, pulse_check, pulse_run}
 use Rattle.runs.specs.Rules.{TableRules}
 use Rattle.runs.specs.Tables.{table_says, words_say, table_check, table_run}
@@ -32,11 +32,17 @@ pulses_passed bytes p = record { long = grind (arith, nat_tests); whole = grind 
 pub looped_same : {stem stem' loop loop' : ℕ} {f f' : ℕ → ℕ → Bool} → stem ≡ stem' → loop ≡ loop' → f ≡ f' → looped stem loop f ≡ looped stem' loop' f'
 looped_same {stem' = stem'} {loop = loop} {loop' = loop'} {f = f} s l e = ap (λ n. looped n loop f) s ∙ ap (λ n. looped stem' n f) l ∙ ap (looped stem' loop') e
 
+-- where bytes pass, their run is given
+pub run_given : (check : Result (Unit {0}) RunFault) {r run : Run} → check ≡ Ok tt → r ≡ run → ◌≡◌ {A = Result Run RunFault} (Ok r) (run_or_fault check run)
+run_given check {r} {run} passes is = ap Ok is ∙ ap (λ c. run_or_fault c run) (sym passes)
+
 -- the run that a conversion gives, or else the silent one
-pub run_or : {S : Type 0} (check : Result (Unit {0}) RunFault) (run : Run) (meaning : S → Run) (result : Result S RunFault) (silent : S) → GivesRun check run meaning result
+pub run_or : {S : Type 0} (check : Result (Unit {0}) RunFault) (run : Run) (meaning : S → Run) (result : Result S RunFault) (silent : S) → meant meaning result ≡ run_or_fault check run
     → ((e : RunFault) → check ≡ Err e → meaning silent ≡ run) → meaning (result_unwrap_or result silent) ≡ run
-run_or check run meaning (Ok source) silent h other = h.1
-run_or check run meaning (Err e) silent h other = other e h
+run_or (Ok tt) run meaning (Ok source) silent h other = cc
+run_or (Ok tt) run meaning (Err e) silent h other = cc
+run_or (Err f) run meaning (Ok source) silent h other = cc
+run_or (Err f) run meaning (Err e) silent h other = other f refl
 
 -- bytes that pass give their run
 pub table_passed_run : (bytes : List ℕ) → table_check bytes ≡ Ok tt → table_run bytes ≡ looped (word bytes 0) (word bytes 2) (table_says (drop 4 bytes))

@@ -1,5 +1,10 @@
--- Numbers in bytes, the low one first.
-use Rattle.std.specs.Prelude.{ℕ, ◌+◌, ◌*◌, List, slice_index}
+-- Bytes, and numbers in them, the low byte first.
+use Rattle.std.specs.Prelude.{ℕ, ◌+◌, ◌*◌, ◌<◌, List, slice_index}
+use Rattle.std.specs.List.{AllByRecursion}
+
+-- numbers that fit a byte each
+abbrev pub Bytes : List ℕ → Type 0
+Bytes ns = AllByRecursion (λ n. n < 256) ns
 
 -- the number in the two bytes from a place on
 abbrev pub word : List ℕ → ℕ → ℕ

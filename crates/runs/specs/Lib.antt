@@ -1,4 +1,5 @@
 pub mod Bytes
+pub mod Fields
 pub mod Looping
 pub mod Telling
 pub mod Tables

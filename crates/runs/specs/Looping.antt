@@ -31,6 +31,11 @@ looped stem loop f = record {
 abbrev pub silent : Run
 silent = looped 0 1 (λ a i. false)
 
+-- the run that bytes give where they pass a check, or what is wrong with them
+abbrev pub run_or_fault : {E : Type 0} → Result (Unit {0}) E → Run → Result Run E
+run_or_fault (Ok done) r = Ok r
+run_or_fault (Err e) r = Err e
+
 -- a run from bytes that pass a check; bytes that fail it give the silent run
 abbrev pub when_run : {E : Type 0} → Result (Unit {0}) E → Run → Run
 when_run (Ok done) r = r

@@ -1,5 +1,5 @@
 -- The looped runs that the sources mean.
-use Rattle.std.specs.Prelude.{◌≡◌, length, Ok, Err, Result, MatchResult}
+use Rattle.std.specs.Prelude.{length, Ok, Err, Result}
 use Rattle.logic.specs.Run.{Run}
 use Rattle.runs.specs.declared.fault.RunFault.{RunFault}
 use Rattle.runs.specs.declared.looped.Looped.{Looped}
@@ -15,6 +15,7 @@ table_meaning t = looped t.stem t.loop_length (words_say t.positions.0.now)
 abbrev pub pulse_meaning : {b : _} → Looped Pulses b → Run
 pulse_meaning p = looped p.stem p.loop_length (pulsed (pulse_in p.positions.0.now) (length p.positions.0.now))
 
--- bytes that pass a check give a source of their run; others give the fault
-abbrev pub GivesRun : {S : Type 0} → Result (Unit {0}) RunFault → Run → (S → Run) → Result S RunFault → Type 0
-GivesRun check run meaning result = MatchResult result (λ source. (check ≡ Ok tt) × (meaning source ≡ run)) (λ fault. check ≡ Err fault)
+-- the run that a source means which was to be made, or why there is none
+abbrev pub meant : {S : Type 0} → (S → Run) → Result S RunFault → Result Run RunFault
+meant meaning (Ok source) = Ok (meaning source)
+meant meaning (Err fault) = Err fault

@@ -5,7 +5,7 @@ use Rattle.runs.specs.declared.fault.RunFault.{RunFault}
 use Rattle.runs.specs.declared.fault.RunFault.TheVariants.{WrongLength, NoRun}
 use Rattle.runs.specs.declared.pulse.Pulse.{Pulse}
 use Rattle.runs.specs.Bytes.{word}
-use Rattle.runs.specs.Looping.{looped, when_run}
+use Rattle.runs.specs.Looping.{looped, run_or_fault, when_run}
 
 -- the pulse in the eight bytes from place 8 * k on
 abbrev pub pulse_at : List ℕ → ℕ → Pulse
@@ -64,3 +64,7 @@ unfoldable pub pulse_run : List ℕ → Run
 pulse_run bytes =
     when_run (pulse_check bytes)
     (looped (latest (pulse_at (drop 2 bytes)) (length (drop 2 bytes) / 8)) (word bytes 0) (pulsed (pulse_at (drop 2 bytes)) (length (drop 2 bytes) / 8)))
+
+-- the run, or what is wrong with the bytes
+abbrev pub pulse_given : List ℕ → Result Run RunFault
+pulse_given bytes = run_or_fault (pulse_check bytes) (pulse_run bytes)

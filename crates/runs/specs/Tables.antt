@@ -4,7 +4,7 @@ use Rattle.logic.specs.Run.{Run}
 use Rattle.runs.specs.declared.fault.RunFault.{RunFault}
 use Rattle.runs.specs.declared.fault.RunFault.TheVariants.{WrongLength, NoRun}
 use Rattle.runs.specs.Bytes.{word, double_word}
-use Rattle.runs.specs.Looping.{looped, when_run}
+use Rattle.runs.specs.Looping.{looped, run_or_fault, when_run}
 
 -- bit a of the word for position i, from the lowest
 abbrev pub table_says : List ℕ → ℕ → ℕ → Bool
@@ -24,3 +24,7 @@ table_check bytes =
 
 unfoldable pub table_run : List ℕ → Run
 table_run bytes = when_run (table_check bytes) (looped (word bytes 0) (word bytes 2) (table_says (drop 4 bytes)))
+
+-- the run, or what is wrong with the bytes
+abbrev pub table_given : List ℕ → Result Run RunFault
+table_given bytes = run_or_fault (table_check bytes) (table_run bytes)

@@ -1,8 +1,8 @@
 // Runs that are given by pulses.
 ghost use Rattle.std.specs.Prelude.{◌≡◌, ℕ, true, length};
 ghost use Rattle.runs.specs.AsGiven.{PulsesAllAlong, SilentOtherwise};
-ghost use Rattle.runs.specs.Meanings.{GivesRun, pulse_meaning};
-ghost use Rattle.runs.specs.Pulses.{pulse_in, pulsed, in_order, latest, FindsPulse, pulse_check, pulse_run};
+ghost use Rattle.runs.specs.Meanings.{meant, pulse_meaning};
+ghost use Rattle.runs.specs.Pulses.{pulse_in, pulsed, in_order, latest, FindsPulse, pulse_check, pulse_given, pulse_run};
 
 use crate::fault::RunFault;
 use crate::looped::{Looped, Positions};
@@ -37,7 +37,7 @@ impl<'a> PulseRun<'a> {
 impl<'a> TryFrom<&'a [u8]> for PulseRun<'a> {
     type Error = RunFault;
 
-    ghost try_from_gives = { λ bytes result. GivesRun (pulse_check bytes.now) (pulse_run bytes.now) pulse_meaning result };
+    ghost try_from_gives = { λ bytes result. meant pulse_meaning result ≡ pulse_given bytes.now };
 
     #[tactic(auto, unfolding(crate::specs::Pulses::pulse_check))]
     fn try_from(bytes: &'a [u8]) -> Result<Self, RunFault> {

@@ -1,8 +1,8 @@
 // Runs that are given position by position.
 ghost use Rattle.std.specs.Prelude.{◌≡◌, true};
 ghost use Rattle.runs.specs.AsGiven.{TablesAsGiven, SilentOtherwise};
-ghost use Rattle.runs.specs.Meanings.{GivesRun, table_meaning};
-ghost use Rattle.runs.specs.Tables.{table_check, table_run, words_say};
+ghost use Rattle.runs.specs.Meanings.{meant, table_meaning};
+ghost use Rattle.runs.specs.Tables.{table_check, table_given, table_run, words_say};
 
 use crate::fault::RunFault;
 use crate::looped::{Looped, Positions};
@@ -35,7 +35,7 @@ impl<'a> TableRun<'a> {
 impl<'a> TryFrom<&'a [u8]> for TableRun<'a> {
     type Error = RunFault;
 
-    ghost try_from_gives = { λ bytes result. GivesRun (table_check bytes.now) (table_run bytes.now) table_meaning result };
+    ghost try_from_gives = { λ bytes result. meant table_meaning result ≡ table_given bytes.now };
 
     #[tactic(auto, unfolding(crate::specs::Tables::table_check))]
     fn try_from(bytes: &'a [u8]) -> Result<Self, RunFault> {

@@ -34,7 +34,7 @@ returns-in_err-entry c =
     let p = err_from_is_err_and c.from_residual.result c.from_residual.ensures.1 in
     let is = at_length s _ c.args.kind c.args.left c.args.right (c.len.ensures ∙ decoded_length _) c.asked_for.ensures (c.in_err-entry.was ∙ ap Err (sym p.2)) in
     let f = formed_refused (entries_of s) s.lower s.distinct c.args.kind c.args.left c.args.right p.0 is in
-    record { answer = p.1 ∙ f.answer; after = f.after; distinct = f.distinct }
+    record { answer = p.1 ∙ f.answer; after = f.after; entries = f.entries; distinct = f.distinct }
 
 -- none of the numbers that the entry can't have is passed over
 pub enter_from-requires : goal.enter_from-requires
@@ -77,4 +77,4 @@ invariant_of-self c =
     }
 
 pub returns : goal.returns
-returns c = let f = entered (goal.at.returns c).After-enter_from in record { answer = c.ok_or.ensures.value ∙ f.answer; after = f.after; distinct = f.distinct }
+returns c = let f = entered (goal.at.returns c).After-enter_from in record { answer = c.ok_or.ensures.value ∙ f.answer; after = f.after; entries = f.entries; distinct = f.distinct }

@@ -1,15 +1,12 @@
 -- The row grows by one position at a time.
-use Rattle.std.proofs.Common.{Less, Equal, Greater, ◌≡◌, ℕ, ◌+◌, min, Bool, ◌&&◌, ◌||◌, cond, ◌<◌, ◌≤◌, eqb, ltb, sym, ap, ⊎_elim, ◌∙◌, ap₂, arith}
+use Rattle.std.proofs.Common.{Less, Equal, Greater, ◌≡◌, ℕ, min, Bool, ◌&&◌, ◌||◌, cond, ◌<◌, ◌≤◌, eqb, ltb, sym, ap, ⊎_elim, ◌∙◌, ap₂, arith}
 use Rattle.std.proofs.lemmas.Bool.{and_left, le-ltb, cases_lt}
 use Rattle.std.specs.Ordering.{nat_cmp, ord_min, is_lt}
 use Rattle.std.specs.Cmp.{nat_cmp_is}
 use Rattle.std.proofs.lemmas.Bool.Decides.{nat_tests}
 use Rattle.rows.proofs.Rows.{said, empty_row, row_of_same}
+use Rattle.runs.proofs.Growing.{one_more}
 use Rattle.runs.proofs.looped.Positions.row.Goals as goal
-
--- the positions below i + 1 are those below i, and i
-one_more : (f : ℕ → Bool) (i j : ℕ) → ((ltb j i && f j) || (f i && eqb j i)) ≡ (ltb j (i + 1) && f j)
-one_more f i j = grind (arith, nat_tests)
 
 -- the least of two numbers, as code asks for it
 least : (a b : ℕ) → ord_min nat_cmp a b ≡ min a b

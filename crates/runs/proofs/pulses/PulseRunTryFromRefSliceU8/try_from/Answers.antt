@@ -5,7 +5,7 @@ use Rattle.std.proofs.lemmas.Bool.Decides.{nat_tests}
 use Rattle.runs.specs.Bytes.{word}
 use Rattle.runs.specs.Pulses.{pulse_at, pulse_in, pulsed, latest, in_order, pulse_check}
 use Rattle.runs.proofs.Chunks.{pulses_of_chunks}
-use Rattle.runs.proofs.Passing.{looped_same, pulses_passed_run}
+use Rattle.runs.proofs.Passing.{looped_same, run_given, pulses_passed_run}
 use Rattle.runs.proofs.pulses.PulseRunTryFromRefSliceU8.try_from.Goals as goal
 use Rattle.runs.proofs.pulses.PulseRunTryFromRefSliceU8.try_from.Goals.{After-from_le_bytes-loop_length, then-loop_length-eq0-via-then-loop_length-eq0, then-loop_length-eq0-via-else-loop_length-eq0+then-not-are_in_order}
 
@@ -40,7 +40,6 @@ returns c =
     let loop : c.from_le_bytes-loop_length.result ≡ word bytes 0 = omega arith in
     let same = arrays_same (goal.at.returns c).After-from_le_bytes-loop_length in
     let orderly : in_order (word bytes 0) (pulse_at (drop 2 bytes)) (length (drop 2 bytes) / 8) ≡ true = cc in
-    let passes : pulse_check bytes ≡ Ok tt = grind (arith, nat_tests) in (
-      passes,
-      looped_same (c.latest_first.ensures ∙ ap₂ latest same.0 same.1) loop (ap₂ pulsed same.0 same.1) ∙ sym (pulses_passed_run bytes passes),
-    )
+    let passes : pulse_check bytes ≡ Ok tt = grind (arith, nat_tests) in
+    run_given (pulse_check bytes) passes
+    (looped_same (c.latest_first.ensures ∙ ap₂ latest same.0 same.1) loop (ap₂ pulsed same.0 same.1) ∙ sym (pulses_passed_run bytes passes))

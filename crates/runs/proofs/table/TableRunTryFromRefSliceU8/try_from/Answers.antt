@@ -5,7 +5,7 @@ use Rattle.std.proofs.lemmas.Slice.{between_to_end}
 use Rattle.std.proofs.lemmas.Bool.Decides.{nat_tests}
 use Rattle.runs.specs.Tables.{table_says, table_check, words_say}
 use Rattle.runs.proofs.Chunks.{words_of_chunks}
-use Rattle.runs.proofs.Passing.{looped_same, table_passed_run}
+use Rattle.runs.proofs.Passing.{looped_same, run_given, table_passed_run}
 use Rattle.runs.proofs.table.TableRunTryFromRefSliceU8.try_from.Goals as goal
 
 pub returns : goal.returns
@@ -13,9 +13,8 @@ unfolding table_check
 returns c =
     let bytes = c.args.bytes.now in
     let rest = length-between bytes 4 (length bytes) (omega arith) in
-    let passes : table_check bytes ≡ Ok tt = grind (arith, nat_tests) in (
-      passes,
-      looped_same (omega arith) (omega arith)
-          (ap words_say c.as_chunks.ensures.front ∙ words_of_chunks _ _ (omega arith) ∙ ap table_says (between_to_end bytes 4 (length bytes) (omega arith)))
-          ∙ sym (table_passed_run bytes passes),
-    )
+    let passes : table_check bytes ≡ Ok tt = grind (arith, nat_tests) in
+    run_given (table_check bytes) passes
+    (looped_same (omega arith) (omega arith)
+    (ap words_say c.as_chunks.ensures.front ∙ words_of_chunks _ _ (omega arith) ∙ ap table_says (between_to_end bytes 4 (length bytes) (omega arith)))
+    ∙ sym (table_passed_run bytes passes))
