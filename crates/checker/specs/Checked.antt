@@ -1,9 +1,7 @@
 -- What a file comes to: the case that its records make, how its reading ended, and the scratch words afterwards.
 use Rattle.std.specs.Prelude.{ℕ, cond, List, length, Ok, Err, Result, nat_le}
 use Rattle.calculus.specs.Pages.{Page}
-use Rattle.calculus.specs.Published.{published}
-use Rattle.calculus.specs.Derived.{derived}
-use Rattle.calculus.proofs.Lawful.{published_lawful, derived_lawful}
+use Rattle.model.specs.StandardPages.{published_page, derived_page}
 use Rattle.model.specs.Case.{Case}
 use Rattle.records.specs.declared.fault.Fault.{Fault}
 use Rattle.files.specs.Reading.{BodyReading, front, body}
@@ -13,7 +11,7 @@ use Rattle.listing.specs.Listing.{listing}
 
 -- the page that lines are entered under: the derived rules over the published page
 abbrev pub program_page : Page
-program_page = record { verdict = derived published; lawful = derived_lawful (record { verdict = published; lawful = published_lawful }) }
+program_page = derived_page published_page
 
 -- all three of these
 pub record Checked : Type 0 where

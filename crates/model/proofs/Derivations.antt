@@ -1,17 +1,17 @@
 -- A derivation that a case is ready for is held line by line, whatever other calls come in between.
-use Rattle.std.proofs.Common.{◌≡◌, ℕ, ◌<◌, List, length, Some, sym, ap, ◌∙◌, subst, inl, inr, arith}
+use Rattle.std.proofs.Common.{◌≡◌, ℕ, ◌<◌, List, length, Some, sym, refl, ap, ◌∙◌, subst, inl, inr, arith}
 use Rattle.std.specs.List.{slice_get}
 use Rattle.std.proofs.lemmas.Bool.{cases_lt}
 use Rattle.logic.specs.Formula.{Formula}
-use Rattle.calculus.specs.Derivations.{Derivation}
+use Rattle.calculus.specs.Derivations.{DerivationLine, Derivation}
 use Rattle.formulas.specs.Adding.{Distinct}
-use Rattle.formulas.proofs.Members.{nth_within, nth_there}
+use Rattle.formulas.proofs.Members.{some_same, nth_within, nth_there}
 use Rattle.model.specs.declared.line.Line.{Line}
 use Rattle.model.specs.Case.{Case}
 use Rattle.model.specs.Describes.{Number}
-use Rattle.model.specs.History.{sealed_stage, Call, History, then, after, Formed, formed_earlier, Assumed, assumed_earlier}
-use Rattle.model.specs.Entering.{Ready, Between, form_between, truth_between, refute_between, refused_between, Entering, not_begun, other_call, next_line}
-use Rattle.model.specs.Promises.{DerivationsHeld}
+use Rattle.model.specs.History.{sealed_stage, Call, line, History, then, after, Formed, formed_earlier, Assumed, assumed_earlier, HeldLine, line_last, line_earlier}
+use Rattle.model.specs.Entering.{Ready, Between, form_between, truth_between, refute_between, refused_between, entered_as, Entering, not_begun, other_call, next_line}
+use Rattle.model.specs.Promises.{DerivationsHeld, EnteredHeld, PublishedPagePublishes}
 use Rattle.model.proofs.Exact.{form_exact}
 use Rattle.model.proofs.Forming.{form_enters_no_line}
 use Rattle.model.proofs.LineChanges.{line_refused}
@@ -87,3 +87,27 @@ pub derivations_held : DerivationsHeld
 derivations_held D h ready n g e s is f formed page publishes =
     let numbered = formed_there sealed_stage g f s.formula formed in
     next_answers D (along_all D h ready e) s is f numbered (assumed_by D h ready e f s.formula numbered) (ready.few_parts n s is) page publishes ready.short
+
+-- the line that was entered last, or an earlier one
+entered_line : (D : Derivation) (h : History sealed_stage) → Ready D h → {m : ℕ} {g : History sealed_stage} → Entering D h m g
+    → (n : ℕ) (s : DerivationLine) → n < m → slice_get D.steps n ≡ Some s → (f : ℕ) × Formed sealed_stage g f s.formula × HeldLine sealed_stage g n (entered_as f s)
+entered_line D h ready not_begun n s before at = absurd (omega (arith, before))
+entered_line D h ready (other_call e x b) n s before at =
+    let (f, formed, held) = entered_line D h ready e n s before at in
+    (f, formed_earlier formed, line_earlier held)
+entered_line D h ready (next_line {n = m} {g = g} e t is page publishes f formed) n s before at = elim (cases_lt n m) [
+  | inl earlier ↦ let (k, early, held) = entered_line D h ready e n s earlier at in (k, formed_earlier early, line_earlier held)
+  | inr from ↦
+      let here : m ≡ n = omega (arith, before, from) in
+      let same : t ≡ s = some_same (sym is ∙ ap (slice_get D.steps) here ∙ at) in
+      let held = derivations_held D h ready m g e t is f formed page publishes in
+      let behind : History sealed_stage = then g (line page (entered_as f t)) in
+      subst (λ (u : DerivationLine). (k : ℕ) × Formed sealed_stage behind k u.formula × HeldLine sealed_stage behind n (entered_as k u)) same
+      (f, formed_earlier formed, subst (λ (k : ℕ). HeldLine sealed_stage behind k (entered_as f t)) here (line_last held))
+]
+
+pub entered_held : EnteredHeld
+entered_held D h ready m g e n s before at = entered_line D h ready e n s before at
+
+pub published_page_publishes : PublishedPagePublishes
+published_page_publishes rule low = (λ from to. refl, λ from to. absurd (omega (arith, low, from)))

@@ -12,7 +12,7 @@ use Rattle.model.specs.Calls.{Outcome}
 use Rattle.model.specs.Case.{Case}
 use Rattle.model.specs.Describes.{Number, Describes, false_kind, atom_kind, implies_kind, next_kind, always_kind}
 use Rattle.model.specs.Outcomes.{Absent, Forming, unknown_kind, bad_field, formula_there, formulas_full, formula_entered, Assuming, not_entered, assumption_there, assumptions_full, newly_assumed}
-use Rattle.model.specs.History.{open_stage, sealed_stage, form, assume, line, History, new, then, then_seal, after, Formed, formed_earlier, HeldLine, line_last, line_earlier}
+use Rattle.model.specs.History.{open_stage, sealed_stage, form, assume, line, History, new, then, then_seal, after, Formed}
 use Rattle.model.specs.Entering.{Publishes, Ready, entered_as, Entering, not_begun, next_line, WithinLimits}
 use Rattle.model.specs.Promises.{DerivationsCanBeEntered}
 use Rattle.model.proofs.Describing.{describes_one}
@@ -21,7 +21,7 @@ use Rattle.model.proofs.Forming.{form_assumes_nothing}
 use Rattle.model.proofs.Assuming.{assume_forms_nothing, assume_keeps}
 use Rattle.model.proofs.Histories.{formulas_from, assumptions_from}
 use Rattle.model.proofs.HeldLines.{no_line_open, line_there}
-use Rattle.model.proofs.Derivations.{formed_still, derivations_held}
+use Rattle.model.proofs.Derivations.{formed_still, entered_held}
 
 -- ---- one call
 
@@ -157,38 +157,27 @@ module _ (D : Derivation) (fs : List Formula) (limits : WithinLimits D fs) where
   }
 
   module _ (page : Page) (publishes : (n : ℕ) (s : DerivationLine) → slice_get D.steps n ≡ Some s → Publishes page s.rule) where
-    -- a history that entered the first n lines behind it, each of which is held
+    -- a history that entered the first n lines behind it
     record FirstEntered (n : ℕ) : Type 0 where
       pub history : History sealed_stage
       pub entering : Entering D start n history
-      pub held : (m : ℕ) (s : DerivationLine) → m < n → slice_get D.steps m ≡ Some s
-          → (f : ℕ) × Formed sealed_stage history f s.formula × HeldLine sealed_stage history m (entered_as f s)
 
     enter_next : (n : ℕ) → n < length D.steps → FirstEntered n → FirstEntered (suc n)
     enter_next n within b =
         let s = nth_there D.steps n within in
         let f = limits.has_lines n s.0 s.1 in
         let formed = formed_still D start b.entering f.0 s.0.formula (start_formed f.0 s.0.formula f.1) in
-        let held = derivations_held D start start_ready n b.history b.entering s.0 s.1 f.0 formed page (publishes n s.0 s.1) in
-        let behind : History sealed_stage = then b.history (line page (entered_as f.0 s.0)) in
         record {
-          history = behind;
+          history = then b.history (line page (entered_as f.0 s.0));
           entering = next_line b.entering s.0 s.1 page (publishes n s.0 s.1) f.0 formed;
-          held = λ m t before at. elim (cases_lt m n) [
-            | inl earlier ↦ let p = b.held m t earlier at in (p.0, formed_earlier p.1, line_earlier p.2)
-            | inr from ↦
-                let here : n ≡ m = omega (arith, before, from) in
-                let same_step : s.0 ≡ t = some_same (sym s.1 ∙ subst (λ (k : ℕ). slice_get D.steps k ≡ Some t) (sym here) at) in
-                subst (λ (u : DerivationLine). (g : ℕ) × Formed sealed_stage behind g u.formula × HeldLine sealed_stage behind m (entered_as g u)) same_step
-                (f.0, formed_earlier formed, subst (λ (k : ℕ). HeldLine sealed_stage behind k (entered_as f.0 s.0)) here (line_last held))
-          ];
         }
 
     first_entered : (n : ℕ) → n ≤ length D.steps → FirstEntered n
-    first_entered zero within = record { history = start; entering = not_begun; held = λ m s before at. absurd (omega (arith, before)) }
+    first_entered zero within = record { history = start; entering = not_begun }
     first_entered (suc n) within = enter_next n (omega arith) (first_entered n (omega arith))
 
 pub derivations_can_be_entered : DerivationsCanBeEntered
 derivations_can_be_entered D fs limits page publishes =
     let b = first_entered D fs limits page publishes (length D.steps) (omega arith) in
-    (start D fs limits, start_ready D fs limits, b.history, b.entering, λ n s at. b.held n s (nth_within D.steps n at) at)
+    let ready = start_ready D fs limits in
+    (start D fs limits, ready, b.history, b.entering, λ n s at. entered_held D (start D fs limits) ready (length D.steps) b.history b.entering n s (nth_within D.steps n at) at)

@@ -10,7 +10,7 @@ use Rattle.model.proofs.Enough.{scratch_suffices}
 use Rattle.model.proofs.Histories.{refusals_change_nothing, formulas_formed, assumptions_assumed, entries_tell, limits_kept}
 use Rattle.model.proofs.HeldLines.{lines_held}
 use Rattle.model.proofs.HeldLinesTrue.{held_lines_true, never_both}
-use Rattle.model.proofs.Derivations.{derivations_held}
+use Rattle.model.proofs.Derivations.{derivations_held, entered_held, published_page_publishes}
 use Rattle.model.proofs.Enterable.{derivations_can_be_entered}
 use Rattle.model.proofs.HeldRefutations.{refutations_held, refutations_have_runs}
 use Rattle.model.proofs.Counting.{counts_tell}
@@ -34,6 +34,8 @@ promises = record {
   held_lines_true = held_lines_true;
   never_both = never_both;
   derivations_held = derivations_held;
+  entered_held = entered_held;
+  published_page_publishes = published_page_publishes;
   derivations_can_be_entered = derivations_can_be_entered;
   refutations_held = refutations_held;
   refutations_have_runs = refutations_have_runs;

@@ -11,4 +11,5 @@ pub mod Making
 pub mod LastRows
 pub mod Limits
 pub mod Entering
+pub mod StandardPages
 pub mod Promises

@@ -10,6 +10,7 @@ use Rattle.calculus.specs.PrimeParts.{prime_parts}
 use Rattle.calculus.specs.Rules.{Gives}
 use Rattle.calculus.specs.Pages.{Page}
 use Rattle.calculus.specs.Published.{published}
+use Rattle.model.specs.StandardPages.{published_page}
 use Rattle.calculus.specs.Derivations.{DerivationLine, Derivation}
 use Rattle.formulas.specs.declared.entry.Entry.{Entry}
 use Rattle.formulas.specs.Entries.{kind_of, left_of, right_of}
@@ -114,6 +115,15 @@ DerivationsHeld = (D : Derivation) (h : History sealed_stage) → Ready D h → 
     → (s : DerivationLine) → slice_get D.steps n ≡ Some s → (f : ℕ) → Formed sealed_stage g f s.formula
     → (page : Page) → Publishes page s.rule → (lines.line (after g) page (entered_as f s)).answer ≡ Ok n
 
+-- so where its first m lines were entered, each of the m is a held line, by its number
+abbrev pub EnteredHeld : Type 0
+EnteredHeld = (D : Derivation) (h : History sealed_stage) → Ready D h → (m : ℕ) (g : History sealed_stage) → Entering D h m g
+    → (n : ℕ) (s : DerivationLine) → n < m → slice_get D.steps n ≡ Some s → (f : ℕ) × Formed sealed_stage g f s.formula × HeldLine sealed_stage g n (entered_as f s)
+
+-- derivations by the rules 0 to 7 may be entered under the published page
+abbrev pub PublishedPagePublishes : Type 0
+PublishedPagePublishes = (rule : ℕ) → rule ≤ 7 → Publishes published_page rule
+
 -- and a derivation that keeps to the limits of a case can be entered: there is a history that makes a case ready for it, and one behind that which enters all its lines under a given page with the published verdicts on their rules, so that each is held by its number
 abbrev pub DerivationsCanBeEntered : Type 0
 DerivationsCanBeEntered = (D : Derivation) (fs : List Formula) → WithinLimits D fs
@@ -187,6 +197,8 @@ pub record Promises : Type 0 where
   pub held_lines_true : HeldLinesTrue
   pub never_both : NeverBoth
   pub derivations_held : DerivationsHeld
+  pub entered_held : EnteredHeld
+  pub published_page_publishes : PublishedPagePublishes
   pub derivations_can_be_entered : DerivationsCanBeEntered
   pub refutations_held : RefutationsHeld
   pub refutations_have_runs : RefutationsHaveRuns
