@@ -5,19 +5,21 @@ use Rattle.refusals.proofs.Answers.{ok_not_err}
 use Rattle.calculus.specs.Pages.{Page}
 use Rattle.model.specs.Case as cases
 use Rattle.model.specs.Calls as calls
-use Rattle.model.specs.History.{Stage, open_stage, sealed_stage, Call, form, assume, line, refute, after_call, Refused, Leads, no_more, refused_call, answered_call}
+use Rattle.model.specs.History.{Stage, open_stage, sealed_stage, Call, form, assume, line, refute, after_call, after, Refused, Leads, no_more, refused_call, answered_call}
+use Rattle.model.proofs.Making.{made}
 use Rattle.records.specs.declared.fault.Cause.{Cause}
 use Rattle.records.specs.declared.fault.Cause.TheVariants.{Case}
 use Rattle.records.specs.declared.fault.PayloadFault.{PayloadFault}
 use Rattle.records.specs.declared.front_record.FrontRecord.{FrontRecord}
 use Rattle.records.specs.declared.front_record.FrontRecord.TheVariants.{FormRecord, AssumeRecord, SealRecord}
+use Rattle.records.specs.Contents.{records_from}
 use Rattle.records.specs.Records.{Records, none, bad, more, records}
 use Rattle.records.specs.Payloads.{record_of_front, Request, form_request, line_request, refute_request, record_of_body}
 use Rattle.records.specs.Asking.{front_asked, body_asked}
 use Rattle.files.specs.Reading.{called, Reading, stopped, front_step, front_from, front, BodyReading, body_stopped, request_made, body_called, body_step, body_from}
-use Rattle.files.specs.CallsMade.{front_call, front_calls, body_call, body_calls, FrontMakesCalls, BodyMakesCalls}
+use Rattle.files.specs.CallsMade.{front_call, front_calls, body_call, body_calls, FrontMakesCalls, BodyMakesCalls, FrontMakesHistory, BodyMakesHistory}
 use Rattle.files.proofs.Scratch.{request_length}
-use Rattle.files.proofs.Left.{body_inside}
+use Rattle.files.proofs.Left.{body_left, body_inside}
 
 -- what a call answered decides whether the calls behind it are made
 module _ {R : Type 0} (case_of : R → cases.Case) (s : Stage) (c : cases.Case) (x : Call s) (xs : List (Call s)) (at : ℕ) (stop : Cause → ℕ → R) (go : R) where
@@ -82,3 +84,10 @@ body_leads page n c words few at (more kind payload rest) =
 
 pub body_makes_calls : BodyMakesCalls
 body_makes_calls page c start words bytes within = rw (body_inside page c start words bytes within) (body_leads page (length words) c words refl start (records (drop start bytes)))
+
+pub front_makes_history : FrontMakesHistory
+front_makes_history h bytes = made open_stage h (front_makes_calls (after h) bytes)
+
+pub body_makes_history : BodyMakesHistory
+body_makes_history page h start words bytes =
+    made sealed_stage h (rw (body_left page (after h) start words bytes) (body_leads page (length words) (after h) words refl start (records_from bytes start)))

@@ -4,9 +4,11 @@ use Rattle.logic.specs.Formula.{Formula}
 use Rattle.logic.specs.Run.{Run}
 use Rattle.calculus.specs.Pages.{Page}
 use Rattle.model.specs.Case as cases
-use Rattle.model.specs.History.{open_stage, sealed_stage, Call, Leads}
+use Rattle.model.specs.History.{open_stage, sealed_stage, Call, History, after, Leads}
+use Rattle.model.specs.Making.{Makes}
 use Rattle.model.specs.LastRows.{LastRows, with_last}
 use Rattle.records.specs.declared.fault.PayloadFault.{PayloadFault}
+use Rattle.records.specs.Contents.{records_from}
 use Rattle.records.specs.Records.{Records, none, bad, more, records}
 use Rattle.records.specs.Payloads.{record_of_front, record_of_body}
 use Rattle.records.specs.Asking.{front_asked, body_asked}
@@ -42,6 +44,16 @@ FrontMakesCalls = (c : cases.Case) (bytes : List ℕ) → Leads open_stage c (fr
 abbrev pub BodyMakesCalls : Type 0
 BodyMakesCalls = (page : Page) (c : cases.Case) (start : ℕ) (words bytes : List ℕ) → start ≤ length bytes
     → Leads sealed_stage c (body_calls page (length words) (records (drop start bytes))) (body page c start words bytes).after
+
+-- so reading counts as these calls in every history: behind any history, whatever the bytes are, the front's calls make a history, up to the first that is refused, and the case after the reading is the one after it
+abbrev pub FrontMakesHistory : Type 0
+FrontMakesHistory = (h : History open_stage) (bytes : List ℕ)
+    → (g : History open_stage) × Makes open_stage h (front_calls (records bytes)) g × ((front (after h) bytes).after ≡ after g)
+
+-- and so do the body's, under any page and from any start; past the end of the file there are none
+abbrev pub BodyMakesHistory : Type 0
+BodyMakesHistory = (page : Page) (h : History sealed_stage) (start : ℕ) (words bytes : List ℕ)
+    → (g : History sealed_stage) × Makes sealed_stage h (body_calls page (length words) (records_from bytes start)) g × ((body page (after h) start words bytes).after ≡ after g)
 
 -- reading the body leaves as many scratch words as there were
 abbrev pub BodyKeepsScratchLength : Type 0

@@ -1,6 +1,9 @@
 // Reads the body of a file: what a sealed case is told.
 ghost use Rattle.std.specs.Prelude.{◌≡◌};
 ghost use Rattle.cases.specs.Model.{sealed};
+ghost use Rattle.model.specs.Making.{OneMade};
+ghost use Rattle.files.specs.CallsMade.{BodyMakesHistory};
+ghost use Rattle.files.specs.FileReads.{BodyExact};
 ghost use Rattle.files.specs.Reading.{body, request_made};
 ghost use Rattle.records.specs.Requests.{request_of};
 
@@ -10,8 +13,8 @@ use refusals::Refusal;
 use rules::RulePage;
 
 // Makes the calls that the records from a start offset on ask for, up to the end of the file. Lines are entered under a
-// page of rules.
-#[tactic(auto, using(crate::proofs::Left::body_left))]
+// page of rules. In every history the reading counts as these calls.
+#[tactic(auto, using(crate::proofs::Left::body_left, crate::proofs::FileReads::body_exact, crate::proofs::CallsMade::body_makes_history, model::proofs::Making::one_made))]
 pub fn read_body<P: RulePage>(
     case: &mut SealedCase,
     page: &P,
@@ -22,6 +25,9 @@ pub fn read_body<P: RulePage>(
     ensures answer { result ≡ (body (P.RulePage.meaning page.now) (sealed case.old) start scratch.old file.now).answer }
     ensures after { sealed case.new ≡ (body (P.RulePage.meaning page.now) (sealed case.old) start scratch.old file.now).after }
     ensures words { scratch.new ≡ (body (P.RulePage.meaning page.now) (sealed case.old) start scratch.old file.now).scratch }
+    ensures exact { BodyExact }
+    ensures history { BodyMakesHistory }
+    ensures one { OneMade }
 {
     for record in Records::new(file, start) {
         let record = record?;

@@ -1,16 +1,23 @@
 // Reads the front of a file: what a case is told before it is sealed.
 ghost use Rattle.std.specs.Prelude.{◌≡◌};
 ghost use Rattle.cases.specs.Model.{opened};
+ghost use Rattle.model.specs.Making.{OneMade};
+ghost use Rattle.files.specs.CallsMade.{FrontMakesHistory};
+ghost use Rattle.files.specs.FileReads.{FrontExact};
 ghost use Rattle.files.specs.Reading.{front};
 
 use cases::OpenCase;
 use records::{ErrorAt, Fault, FrontRecord, RecordFault, Records, at};
 
-// Makes the calls that the records ask for, up to the seal record, and answers the offset behind it.
-#[tactic(auto, using(crate::proofs::Left::front_left))]
+// Makes the calls that the records ask for, up to the seal record, and answers the offset behind it. In every history the
+// reading counts as these calls.
+#[tactic(auto, using(crate::proofs::Left::front_left, crate::proofs::FileReads::front_exact, crate::proofs::CallsMade::front_makes_history, model::proofs::Making::one_made))]
 pub fn read_front(case: &mut OpenCase, file: &[u8]) -> Result<usize, Fault>
     ensures answer { result ≡ (front (opened case.old) file.now).answer }
     ensures after { opened case.new ≡ (front (opened case.old) file.now).after }
+    ensures exact { FrontExact }
+    ensures history { FrontMakesHistory }
+    ensures one { OneMade }
 {
     for record in Records::new(file, 0) {
         let record = record?;
