@@ -1,4 +1,6 @@
 -- What is promised of the way from a file to its listing.
+use Rattle.model.proofs.Enough.{scratch_suffices}
+use Rattle.model.proofs.Promises as cases
 use Rattle.files.proofs.CallsMade.{front_makes_calls, body_makes_calls}
 use Rattle.files.proofs.FileReads.{front_exact, body_exact, body_past_end}
 use Rattle.files.proofs.LastRows.{body_leaves_last_rows}
@@ -6,9 +8,11 @@ use Rattle.records.proofs.Asking.{records_ask}
 use Rattle.records.proofs.ReadBack.{records_read_back}
 use Rattle.files.proofs.Scratch.{body_keeps_scratch_length}
 use Rattle.files.proofs.Within.{offsets_within}
-use Rattle.checker.specs.Promises.{FilePromises}
-use Rattle.checker.proofs.Listed.{listed_after_history}
+use Rattle.checker.specs.Promises.{FilePromises, AllPromises}
+use Rattle.checker.proofs.Fitting.{listings_fit}
+use Rattle.checker.proofs.Listed.{listed_after_history, one_file_history}
 use Rattle.checker.proofs.Page.{page_publishes, page_exact, page_limit, program_line_exactly}
+use Rattle.checker.proofs.Starting.{start_suffices}
 
 pub promises : FilePromises
 promises = record {
@@ -27,4 +31,14 @@ promises = record {
   page_limit = page_limit;
   program_line_exactly = program_line_exactly;
   listed_after_history = listed_after_history;
+  one_file_history = one_file_history;
+}
+
+pub all_promises : AllPromises
+all_promises = record {
+  cases = cases.promises;
+  files = promises;
+  fits = listings_fit;
+  suffices = scratch_suffices;
+  start = start_suffices;
 }

@@ -3,12 +3,11 @@
 
 ghost use Rattle.std.specs.Prelude.{◌≡◌, IfOk, replicate, take};
 ghost use Rattle.model.specs.Case.{empty};
-ghost use Rattle.model.specs.Promises.{ScratchSuffices};
 ghost use Rattle.cases.specs.Model.{opened, sealed};
 ghost use Rattle.listing.specs.Written.{written_answer, written_after};
 ghost use Rattle.checker.specs.Checked.{checked, from_front, file_listing};
 ghost use Rattle.checker.specs.Unwritten.{ListsInto};
-ghost use Rattle.checker.specs.Promises.{ListsHistory, ListingsFit, StartSuffices, FilePromises};
+ghost use Rattle.checker.specs.Promises.{ListsHistory, AllPromises};
 
 use cases::{OpenCase, SealedCase};
 use files::{Fault, read_body, read_front};
@@ -35,7 +34,7 @@ const PAGE: DerivedPage<PublishedPage> = DerivedPage {
 
 // Reads a file into an open case, with scratch words for its refutations, and writes the listing into a caller's buffer,
 // since nothing is allocated after a case is made: its length is answered.
-#[tactic(auto, using(crate::proofs::Promised::promises, crate::proofs::Fitting::listings_fit))]
+#[tactic(auto, using(crate::proofs::Promised::all_promises))]
 pub fn list_file(
     case: OpenCase,
     file: &[u8],
@@ -45,9 +44,7 @@ pub fn list_file(
     ensures answer { result ≡ written_answer (file_listing (opened case) scratch.old file.now) buffer.old }
     ensures after { buffer.new ≡ written_after (file_listing (opened case) scratch.old file.now) buffer.old }
     ensures words { scratch.new ≡ (checked (opened case) scratch.old file.now).scratch }
-    ensures promised { FilePromises }
-    ensures fits { ListingsFit LISTING_MOST }
-    ensures suffices { ScratchSuffices SCRATCH_MOST }
+    ensures promised { AllPromises }
 {
     let (case, ending) = read_file(case, file, scratch);
     write_listing(&case, ending, buffer)
@@ -55,13 +52,11 @@ pub fn list_file(
 
 // Writes the listing of a file that is read into a new case, with scratch words of its own, into a caller's buffer. It is
 // that of the history that the file makes: its front's calls, the seal, its body's calls.
-#[tactic(auto, using(crate::proofs::Promised::promises, crate::proofs::Fitting::listings_fit, crate::proofs::Starting::start_suffices))]
+#[tactic(auto, using(crate::proofs::Promised::all_promises))]
 pub fn list_into(heap: Global, file: &[u8], buffer: &mut [u8]) -> Result<usize, Unwritten>
     ensures text { ListsInto SCRATCH_MOST file.now buffer.old result buffer.new }
     ensures history { IfOk result (λ n. ListsHistory SCRATCH_MOST file.now (take n buffer.new)) }
-    ensures promised { FilePromises }
-    ensures fits { ListingsFit LISTING_MOST }
-    ensures start { StartSuffices INPUT_MOST }
+    ensures promised { AllPromises }
 {
     let mut scratch = vec![in heap; 0; SCRATCH_MOST]?;
     let case = OpenCase::new(heap)?;
@@ -69,12 +64,11 @@ pub fn list_into(heap: Global, file: &[u8], buffer: &mut [u8]) -> Result<usize, 
 }
 
 // The listing of a file that is read into a new case, in memory of its own.
-#[tactic(auto, using(crate::proofs::Promised::promises, crate::proofs::Starting::start_suffices))]
+#[tactic(auto, using(crate::proofs::Promised::all_promises))]
 pub fn listing_of(heap: Global, file: &[u8]) -> Result<Vec<u8>, AllocError>
     ensures text { IfOk result (λ text. text.items ≡ file_listing empty (replicate SCRATCH_MOST 0) file.now) }
     ensures history { IfOk result (λ text. ListsHistory SCRATCH_MOST file.now text.items) }
-    ensures promised { FilePromises }
-    ensures start { StartSuffices INPUT_MOST }
+    ensures promised { AllPromises }
 {
     let mut buffer = vec![in heap; 0; LISTING_MOST]?;
     match list_into(heap, file, &mut buffer) {

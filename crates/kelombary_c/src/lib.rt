@@ -1,9 +1,8 @@
 // The checker for callers in C: include/kelombary.h declares what stands here.
 #![tactic(auto)]
 
-ghost use Rattle.listing.specs.declared.writing.TheConstants.{LISTING_MOST};
-ghost use Rattle.checker.specs.declared.TheConstants.{INPUT_MOST, SCRATCH_MOST};
-ghost use Rattle.checker.specs.Promises.{ListingsFit, StartSuffices, FilePromises};
+ghost use Rattle.checker.specs.declared.TheConstants.{SCRATCH_MOST};
+ghost use Rattle.checker.specs.Promises.{AllPromises};
 ghost use Rattle.kelombary_c.specs.Answered.{Answered, Tells};
 
 use checker::{Unwritten, list_into};
@@ -23,9 +22,7 @@ pub struct Answer {
 #[unsafe(no_mangle)]
 pub extern "C" fn kelombary_list(heap: Global, file: &[u8], buffer: &mut [u8]) -> Answer
     ensures text { Answered SCRATCH_MOST file.now buffer.old result buffer.new }
-    ensures promised { FilePromises }
-    ensures fits { ListingsFit LISTING_MOST }
-    ensures start { StartSuffices INPUT_MOST }
+    ensures promised { AllPromises }
 {
     answer_for(list_into(heap, file, buffer))
 }
