@@ -3,15 +3,18 @@
 #![tactic(auto)]
 
 use cases::{OpenCase, SealedCase};
-use std::alloc::{AllocError, Global};
 use source::Supply;
+use std::alloc::{AllocError, Global};
 
 mod source;
 
 // The formulas of the case, by number.
 const ON: u16 = 0;
+
 const ALWAYS_ON: u16 = 1;
+
 const STAYS_ON: u16 = 2;
+
 const ON_NEXT: u16 = 3;
 
 fn main(rt: HostRuntime) -> anyhow::Result<()> {
