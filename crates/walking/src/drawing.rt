@@ -4,14 +4,30 @@ use crate::walk::Walk;
 use cases::{OpenCase, SealedCase};
 use std::alloc::{AllocError, Global};
 
-// The atoms that runs tell of, with their bits.
-pub(crate) const ATOMS: [(u16, u32); 3] = [(0, 1), (1, 2), (31, 2_147_483_648)];
+// The atoms that a case and its run tell of, by rising number, with their bits.
+pub(crate) type Atoms = [(u16, u32); 3];
 
-// False, three atoms, and some formulas over these, of which up to three are assumed.
-pub(crate) fn draw_case(heap: Global, chance: &mut Chance) -> Result<SealedCase, AllocError> {
+// Three of the 32 atoms: one up to 10, one from 11 to 21, and one from 22 on.
+pub(crate) fn draw_atoms(chance: &mut Chance) -> Atoms {
+    let low = chance.below(11);
+    let middle = chance.below(11).wrapping_add(11);
+    let high = chance.below(10).wrapping_add(22);
+    [with_bit(low), with_bit(middle), with_bit(high)]
+}
+
+fn with_bit(atom: u16) -> (u16, u32) {
+    (atom, 1u32.wrapping_shl(u32::from(atom)))
+}
+
+// False, the three atoms, and some formulas over these, of which up to three are assumed.
+pub(crate) fn draw_case(
+    heap: Global,
+    chance: &mut Chance,
+    atoms: Atoms,
+) -> Result<SealedCase, AllocError> {
     let mut case = OpenCase::new(heap)?;
     let _ = case.form(0, 0, 0);
-    for (atom, _) in ATOMS {
+    for (atom, _) in atoms {
         let _ = case.form(1, atom, 0);
     }
     let mut count = 4;
@@ -38,6 +54,7 @@ pub(crate) fn draw_case(heap: Global, chance: &mut Chance) -> Result<SealedCase,
 pub(crate) fn draw_walk(
     heap: Global,
     chance: &mut Chance,
+    atoms: Atoms,
     stem: u16,
     loop_length: u16,
 ) -> Result<Walk, AllocError> {
@@ -45,7 +62,7 @@ pub(crate) fn draw_walk(
     let mut words = Vec::new(heap);
     for _ in 0..stem.saturating_add(loop_length) {
         let mut word = 0;
-        for ((_, bit), way) in ATOMS.into_iter().zip(ways) {
+        for ((_, bit), way) in atoms.into_iter().zip(ways) {
             if is_there(chance, way) {
                 word |= bit;
             }

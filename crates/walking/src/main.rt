@@ -1,11 +1,11 @@
 // Walks runs position by position, and compares what it finds with the answers and the rows of cases.
 // It takes from a case nothing but its entries and its assumptions, and draws its runs itself.
-// Of all that it writes, only `different 0` does not come from the program itself: the other numbers were taken from a
-// run of it, and tell how much was compared, and that no kind of answer is rare.
+// The numbers beside `different 0` tell how much was compared, and that no kind of answer is rare. The file `expected`
+// beside src/ draws and walks all of it anew, and stdout was made by it.
 #![tactic(auto)]
 
 use chance::Chance;
-use drawing::{ATOMS, draw_case, draw_walk, table_bytes};
+use drawing::{draw_atoms, draw_case, draw_walk, table_bytes};
 use pulsing::{add_bytes, draw_pulse, with_pulse};
 use runs::{PulseRun, TableRun};
 use std::alloc::{AllocError, Global};
@@ -60,8 +60,9 @@ fn try_table(
     loop_length: u16,
     totals: &mut Totals,
 ) -> Result<(), AllocError> {
-    let case = draw_case(heap, chance)?;
-    let walk = draw_walk(heap, chance, stem, loop_length)?;
+    let atoms = draw_atoms(chance);
+    let case = draw_case(heap, chance, atoms)?;
+    let walk = draw_walk(heap, chance, atoms, stem, loop_length)?;
     let bytes = table_bytes(heap, &walk, stem, loop_length)?;
     let truths = walk.judge(heap, &case)?;
     totals.compare(heap, chance, case, &TableRun::new(&bytes), &truths)
@@ -75,12 +76,13 @@ fn try_pulses(
     loop_length: u16,
     totals: &mut Totals,
 ) -> Result<(), AllocError> {
-    let case = draw_case(heap, chance)?;
+    let atoms = draw_atoms(chance);
+    let case = draw_case(heap, chance, atoms)?;
     let mut bytes = Vec::new(heap);
     bytes.extend_from_slice(&loop_length.to_le_bytes())?;
     let mut words = vec![in heap; 0u32; usize::from(stem) + usize::from(loop_length)]?;
     let mut first = stem;
-    for (atom, bit) in ATOMS {
+    for (atom, bit) in atoms {
         let pulse = draw_pulse(chance, first, loop_length);
         words = with_pulse(heap, &words, bit, pulse)?;
         add_bytes(&mut bytes, atom, pulse)?;
