@@ -1,10 +1,10 @@
--- Going down from an entry: what is known of marks and parts stays known at each entry, and in the end the prime parts are there.
-use Rattle.std.proofs.Common.{◌≡◌, ◌+◌, ◌<◌, ◌≤◌, Bool, true, false, ◌≢◌, ◌⊎◌, List, [], ◌∷◌, ◌++◌, ℕ, zero, suc, replicate, set, length, get_or, Some, sym, refl, ap, ◌∙◌, subst, inl, inr, arith, get_or-set_other, get_or-set_same}
+-- Going down from an entry: what is known of marks and parts stays known at each entry that is met, and in the end the prime parts are there.
+use Rattle.std.proofs.Common.{◌≡◌, ◌+◌, ◌<◌, ◌≤◌, Bool, true, false, ◌||◌, eqb, ◌≢◌, ◌⊎◌, List, [], ◌∷◌, ◌++◌, ℕ, zero, suc, replicate, set, length, get_or, Some, sym, refl, ap, ◌∙◌, subst, inl, inr, arith, get_or-set_other, get_or-set_same}
 use Rattle.std.specs.List.{slice_get}
 use Rattle.std.specs.Option.{option_map}
-use Rattle.std.proofs.lemmas.Bool.{and_parts, cases_eq, cases_lt, true≢false, ltb-true}
+use Rattle.std.proofs.lemmas.Bool.{and_parts, cases_eq, cases_lt, true≢false, ltb-true, eqb-false, ne_eqb}
 use Rattle.std.proofs.lemmas.Option.{slice_get-map}
-use Rattle.std.proofs.lemmas.List.{length-map, length_push, get_or-replicate, get_or_past, length-replicate, length-set}
+use Rattle.std.proofs.lemmas.List.{length-map, length_push, get_or-replicate, get_or_past, length-replicate}
 use Rattle.logic.specs.Formula.{Formula, falsum}
 use Rattle.formulas.specs.declared.entry.Entry.{Entry}
 use Rattle.formulas.specs.declared.entry.Entry.TheVariants.{False, Atom, Implies, Next, Always}
@@ -15,7 +15,7 @@ use Rattle.formulas.proofs.Decoded.{formula_at_is, formula_injective}
 use Rattle.formulas.proofs.Members.{some_same, some_not_none, nth_within, nth_there, nth_push, nth_pushed, nth_stays, distinct_push}
 use Rattle.calculus.specs.PrimeParts.{PrimePart, prime_parts}
 use Rattle.calculus.proofs.Parts.{prime_parts_listed}
-use Rattle.tautologies.specs.Gathering.{Entered, Passed, Gathered, Marked, Prime, formulas_at}
+use Rattle.tautologies.specs.Gathering.{Entered, Below, Going, GoneThrough, TooManyParts, Gathered, Marked, Prime, formulas_at}
 use Rattle.tautologies.proofs.Counting.{no_longer}
 
 -- ---- parts and their formulas
@@ -29,6 +29,19 @@ member_part es parts k is =
 
 pub part_member : (es : List Entry) (parts : List ℕ) (k n : ℕ) → slice_get parts k ≡ Some n → slice_get (formulas_at es parts) k ≡ Some (formula_at es n)
 part_member es parts k n is = slice_get-map (formula_at es) parts k ∙ ap (option_map (formula_at es)) is
+
+-- ---- tests
+
+or_false : (x y : Bool) → (x || y) ≡ false → (x ≡ false) × (y ≡ false)
+or_false true y h = absurd (true≢false h)
+or_false false y h = (refl, h)
+
+neither : (x y : Bool) → x ≡ false → y ≡ false → (x || y) ≡ false
+neither true y h k = absurd (true≢false h)
+neither false y h k = k
+
+ne_from_false : (m n : ℕ) → eqb m n ≡ false → m ≢ n
+ne_from_false m n = eqb-false m n
 
 -- ---- a mark more
 
@@ -119,174 +132,209 @@ module _ (es : List Entry) (entered : Entered es) where
       let fewer = no_longer (prime_parts (formula_at es root)) (formulas_at es parts) listed.0 (λ P there. has P ((listed.1 P).0 there)) in
       omega (arith, fewer, length-map parts (formula_at es))
 
-  -- ---- one entry gone through
-
-  module _ (root : ℕ) (seen : List Bool) (parts : List ℕ) (n : ℕ) (g : Passed es root seen parts (n + 1)) where
-    -- what is a part already has a higher number
-    no_part : (k : ℕ) → slice_get parts k ≡ Some n → ⊥
-    no_part k is = omega (arith, (g.met k n is).0)
-
-    -- an entry that has nothing to add
-    pub nothing : ((a b : ℕ) → Marked seen n → get_or es n False ≡ Implies a b → ⊥) → (Marked seen n → Prime (get_or es n False) → ⊥) → Passed es root seen parts n
-    nothing no_operands no_prime = record {
-      begun = g.begun;
-      entered = g.entered;
-      only = g.only;
-      operands = λ m a b h mark is. elim (cases_eq m n) [
-        | inl e ↦ absurd (no_operands a b (subst (Marked seen) e mark) (subst (λ (i : ℕ). get_or es i False ≡ Implies a b) e is))
-        | inr ne ↦ g.operands m a b (omega (arith, ne)) mark is
-      ];
-      prime = λ m h mark p. elim (cases_eq m n) [
-        | inl e ↦ absurd (no_prime (subst (Marked seen) e mark) (subst (λ (i : ℕ). Prime (get_or es i False)) e p))
-        | inr ne ↦ g.prime m (omega (arith, ne)) mark p
-      ];
-      met = λ k m is. let old = g.met k m is in (omega (arith, old.0), old.1);
-      once = g.once;
-    }
-
-    -- a marked entry of a prime kind is one part more
-    module _ (mark : Marked seen n) (prime : Prime (get_or es n False)) where
-      pub one_more : Passed es root seen (parts ++ n ∷ []) n
-      one_more = record {
-        begun = g.begun;
-        entered = g.entered;
-        only = g.only;
-        operands = λ m a b h marked is. elim (cases_eq m n) [
-          | inl e ↦ absurd (subst Prime (subst (λ (i : ℕ). get_or es i False ≡ Implies a b) e is) prime)
-          | inr ne ↦ g.operands m a b (omega (arith, ne)) marked is
-        ];
-        prime = λ m h marked p. elim (cases_eq m n) [
-          | inl e ↦ (length parts, subst (λ (i : ℕ). slice_get (parts ++ n ∷ []) (length parts) ≡ Some i) (sym e) (nth_push parts n))
-          | inr ne ↦ let old = g.prime m (omega (arith, ne)) marked p in (old.0, nth_stays parts n old.0 m old.1)
-        ];
-        met = λ k m is. elim (nth_pushed parts n k m is) [
-          | inl old ↦ let so = g.met k m old in (omega (arith, so.0), so.1)
-          | inr at ↦ subst (λ (i : ℕ). (n ≤ i) × (Marked seen i × Prime (get_or es i False))) at.1 (omega arith, (mark, prime))
-        ];
-        once = distinct_push parts n g.once no_part;
-      }
-
-  -- parts are prime parts of the formula
-  pub parts_are : (root : ℕ) (seen : List Bool) (parts : List ℕ) (n : ℕ) → Passed es root seen parts n
+  -- parts are prime parts of the formula that is gone through
+  parts_are : (root : ℕ) (waits : ℕ → Bool) (seen : List Bool) (parts : List ℕ) → Going es root waits seen parts
       → (k m : ℕ) → slice_get parts k ≡ Some m → (m < length es) × PrimePart (formula_at es root) (formula_at es m)
-  parts_are root seen parts n g k m is =
+  parts_are root waits seen parts g k m is =
       let so = g.met k m is in
-      let there = g.entered m so.1.0 in
-      (there, g.only m so.1.0 (formula_at es m) (own m there so.1.1))
+      let there = g.entered m so.0 in
+      (there, g.only m so.0 (formula_at es m) (own m there so.1))
 
-  -- a part that finds no room
-  pub too_many : (root : ℕ) (seen : List Bool) (parts : List ℕ) (n : ℕ) → Passed es root seen parts (n + 1) → Marked seen n → Prime (get_or es n False) → 12 ≤ length parts
-      → 12 < length (prime_parts (formula_at es root))
-  too_many root seen parts n g mark prime full =
-      let more = one_more root seen parts n g mark prime in
-      omega (arith, at_most root (parts ++ n ∷ []) (parts_are root seen (parts ++ n ∷ []) n more) more.once, length_push parts n)
+  -- ---- one entry met
 
-  -- the operands of a marked implication are marked
-  pub two_marks : (root : ℕ) (seen : List Bool) (parts : List ℕ) (n a b : ℕ) → Passed es root seen parts (n + 1) → length seen ≡ 1024 → n < length es
-      → Marked seen n → get_or es n False ≡ Implies a b → Passed es root (set (set seen a true) b true) parts n
-  two_marks root seen parts n a b g long there mark is = record {
-    begun = stays root g.begun;
-    entered = λ m marked. elim (new m marked) [ inl e ↦ omega (arith, low.0) | inr other ↦ elim other [ inl e ↦ omega (arith, low.1) | inr old ↦ g.entered m old ] ];
-    only = λ m marked P p. elim (new m marked) [
-      | inl e ↦ g.only n mark P (part P (inl (subst (λ (i : ℕ). PrimePart (formula_at es i) P) e p)))
-      | inr other ↦ elim other [
-        | inl e ↦ g.only n mark P (part P (inr (subst (λ (i : ℕ). PrimePart (formula_at es i) P) e p)))
-        | inr old ↦ g.only m old P p
-      ]
-    ];
-    operands = λ m c d h marked at. elim (cases_eq m n) [
-      | inl e ↦
-          let same = sym is ∙ subst (λ (i : ℕ). get_or es i False ≡ Implies c d) e at in
-          let left : a ≡ c = cc in
-          let right : b ≡ d = cc in
-          (subst (Marked seen') left mark_a, subst (Marked seen') right mark_b)
-      | inr ne ↦
-          let both = g.operands m c d (omega (arith, ne)) (above m h marked) at in
-          (stays c both.0, stays d both.1)
-    ];
-    prime = λ m h marked p. elim (cases_eq m n) [
-      | inl e ↦ absurd (subst Prime (subst (λ (i : ℕ). get_or es i False ≡ Implies a b) (sym e) is) p)
-      | inr ne ↦ g.prime m (omega (arith, ne)) (above m h marked) p
-    ];
-    met = λ k m at. let so = g.met k m at in (omega (arith, so.0), (stays m so.1.0, so.1.1));
-    once = g.once;
-  }
-    where
-      low : (a < n) × (b < n)
-      low = lower_operands n a b there is
+  module _ (n : ℕ) (there : n < length es) (seen : List Bool) (parts : List ℕ) where
+    -- one that was met before
+    pub known : Marked seen n → GoneThrough es n n seen parts seen parts
+    known mark = record { stay = λ m marked. marked; first = mark; second = mark; on = λ root waits g below again. g }
 
-      seen' : List Bool
-      seen' = set (set seen a true) b true
+    module _ (long : length seen ≡ 1024) (unmet : Marked seen n → ⊥) where
+      abbrev seen' : List Bool
+      seen' = set seen n true
 
-      room_a : a < length seen
-      room_a = omega (arith, low.0, entered.within)
-
-      room_b : b < length (set seen a true)
-      room_b = omega (arith, low.1, entered.within, length-set seen a true)
+      room : n < length seen
+      room = omega (arith, long, there, entered.within)
 
       stays : (m : ℕ) → Marked seen m → Marked seen' m
-      stays m marked = mark_stays (set seen a true) b room_b m (mark_stays seen a room_a m marked)
+      stays = mark_stays seen n room
 
-      mark_a : Marked seen' a
-      mark_a = mark_stays (set seen a true) b room_b a (mark_there seen a room_a)
+      marked : Marked seen' n
+      marked = mark_there seen n room
 
-      mark_b : Marked seen' b
-      mark_b = mark_there (set seen a true) b room_b
+      new : (m : ℕ) → Marked seen' m → (m ≡ n) ⊎ Marked seen m
+      new = mark_new seen n room
 
-      new : (m : ℕ) → Marked seen' m → (m ≡ a) ⊎ ((m ≡ b) ⊎ Marked seen m)
-      new m marked = elim (mark_new (set seen a true) b room_b m marked) [
-        | inl e ↦ inr (inl e)
-        | inr old ↦ elim (mark_new seen a room_a m old) [ inl e ↦ inl e | inr older ↦ inr (inr older) ]
-      ]
+      module _ (root : ℕ) (waits : ℕ → Bool) (g : Going es root waits seen parts) (below : Below es root n) where
+        entered_still : (m : ℕ) → Marked seen' m → m < length es
+        entered_still m mark = elim (new m mark) [ inl e ↦ omega (arith, there, e) | inr old ↦ g.entered m old ]
 
-      above : (m : ℕ) → n ≤ m → Marked seen' m → Marked seen m
-      above m h marked = elim (new m marked) [
-        | inl e ↦ absurd (omega (arith, low.0))
-        | inr other ↦ elim other [ inl e ↦ absurd (omega (arith, low.1)) | inr old ↦ old ]
-      ]
+        only_still : (m : ℕ) → Marked seen' m → Below es root m
+        only_still m mark P p = elim (new m mark) [
+          | inl e ↦ below P (subst (λ (i : ℕ). PrimePart (formula_at es i) P) e p)
+          | inr old ↦ g.only m old P p
+        ]
 
-      part : (P : Formula) → PrimePart (formula_at es a) P ⊎ PrimePart (formula_at es b) P → PrimePart (formula_at es n) P
-      part P p = subst (λ (X : Formula). PrimePart X P) (sym (formula_is n there (Implies a b) is)) p
+        -- it may wait
+        waiting : Going es root (λ m. waits m || eqb m n) seen' parts
+        waiting = record {
+          entered = entered_still;
+          only = only_still;
+          operands = λ m a b mark ready is. elim (new m mark) [
+            | inl e ↦ absurd (ne_from_false m n (or_false (waits m) (eqb m n) ready).1 e)
+            | inr old ↦ let both = g.operands m a b old (or_false (waits m) (eqb m n) ready).0 is in (stays a both.0, stays b both.1)
+          ];
+          prime = λ m mark ready p. elim (new m mark) [
+            | inl e ↦ absurd (ne_from_false m n (or_false (waits m) (eqb m n) ready).1 e)
+            | inr old ↦ g.prime m old (or_false (waits m) (eqb m n) ready).0 p
+          ];
+          met = λ k m is. let so = g.met k m is in (stays m so.0, so.1);
+          once = g.once;
+        }
+
+      -- false has nothing to add
+      pub met_false : get_or es n False ≡ False → GoneThrough es n n seen parts seen' parts
+      met_false is = record {
+        stay = stays;
+        first = marked;
+        second = marked;
+        on = λ root waits g below again. record {
+          entered = entered_still root waits g below;
+          only = only_still root waits g below;
+          operands = λ m a b mark ready at. elim (new m mark) [
+            | inl e ↦ let wrong : ◌≡◌ {A = Entry} False (Implies a b) = sym is ∙ subst (λ (i : ℕ). get_or es i False ≡ Implies a b) e at in cc
+            | inr old ↦ let both = g.operands m a b old ready at in (stays a both.0, stays b both.1)
+          ];
+          prime = λ m mark ready p. elim (new m mark) [
+            | inl e ↦ absurd (subst Prime is (subst (λ (i : ℕ). Prime (get_or es i False)) e p))
+            | inr old ↦ g.prime m old ready p
+          ];
+          met = λ k m at. let so = g.met k m at in (stays m so.0, so.1);
+          once = g.once;
+        };
+      }
+
+      -- one of a prime kind is one part more
+      module _ (prime : Prime (get_or es n False)) where
+        pub met_part : GoneThrough es n n seen parts seen' (parts ++ n ∷ [])
+        met_part = record {
+          stay = stays;
+          first = marked;
+          second = marked;
+          on = λ root waits g below again. record {
+            entered = entered_still root waits g below;
+            only = only_still root waits g below;
+            operands = λ m a b mark ready at. elim (new m mark) [
+              | inl e ↦ absurd (subst Prime (subst (λ (i : ℕ). get_or es i False ≡ Implies a b) e at) prime)
+              | inr old ↦ let both = g.operands m a b old ready at in (stays a both.0, stays b both.1)
+            ];
+            prime = λ m mark ready p. elim (new m mark) [
+              | inl e ↦ (length parts, subst (λ (i : ℕ). slice_get (parts ++ n ∷ []) (length parts) ≡ Some i) (sym e) (nth_push parts n))
+              | inr old ↦ let place = g.prime m old ready p in (place.0, nth_stays parts n place.0 m place.1)
+            ];
+            met = λ k m at. elim (nth_pushed parts n k m at) [
+              | inl old ↦ let so = g.met k m old in (stays m so.0, so.1)
+              | inr last ↦ subst (λ (i : ℕ). Marked seen' i × Prime (get_or es i False)) last.1 (marked, prime)
+            ];
+            once = distinct_push parts n g.once (λ k at. unmet (g.met k n at).0);
+          };
+        }
+
+        -- or finds no room
+        pub met_too_many : 12 ≤ length parts → TooManyParts es n n seen parts
+        met_too_many full root waits g below again =
+            let more = met_part.on root waits g below again in
+            omega (arith, at_most root (parts ++ n ∷ []) (parts_are root waits seen' (parts ++ n ∷ []) more) more.once, length_push parts n)
+
+      -- an implication waits for its operands
+      module _ (a b : ℕ) (is : get_or es n False ≡ Implies a b) where
+        left_below : (root : ℕ) → Below es root n → Below es root a
+        left_below root below P p = below P (subst (λ (X : Formula). PrimePart X P) (sym (formula_is n there (Implies a b) is)) (inl p))
+
+        right_below : (root : ℕ) → Below es root n → Below es root b
+        right_below root below P p = below P (subst (λ (X : Formula). PrimePart X P) (sym (formula_is n there (Implies a b) is)) (inr p))
+
+        pub met_implication : (seen_after : List Bool) (parts_after : List ℕ) → GoneThrough es a b seen' parts seen_after parts_after → GoneThrough es n n seen parts seen_after parts_after
+        met_implication seen_after parts_after operands = record {
+          stay = λ m mark. operands.stay m (stays m mark);
+          first = operands.stay n marked;
+          second = operands.stay n marked;
+          on = λ root waits g below again.
+              let after = operands.on root (λ m. waits m || eqb m n) (waiting root waits g below) (left_below root below) (right_below root below) in
+              record {
+                entered = after.entered;
+                only = after.only;
+                operands = λ m c d mark ready at. elim (cases_eq m n) [
+                  | inl e ↦
+                      let same = sym is ∙ subst (λ (i : ℕ). get_or es i False ≡ Implies c d) e at in
+                      let left : a ≡ c = cc in
+                      let right : b ≡ d = cc in
+                      (subst (Marked seen_after) left operands.first, subst (Marked seen_after) right operands.second)
+                  | inr ne ↦ after.operands m c d mark (neither (waits m) (eqb m n) ready (ne_eqb m n ne)) at
+                ];
+                prime = λ m mark ready p. elim (cases_eq m n) [
+                  | inl e ↦ absurd (subst Prime is (subst (λ (i : ℕ). Prime (get_or es i False)) e p))
+                  | inr ne ↦ after.prime m mark (neither (waits m) (eqb m n) ready (ne_eqb m n ne)) p
+                ];
+                met = after.met;
+                once = after.once;
+              };
+        }
+
+        pub implication_too_many : TooManyParts es a b seen' parts → TooManyParts es n n seen parts
+        implication_too_many many root waits g below again = many root (λ m. waits m || eqb m n) (waiting root waits g below) (left_below root below) (right_below root below)
+
+  -- ---- one after another
+
+  module _ (a b : ℕ) (seen : List Bool) (parts : List ℕ) (between : List Bool) (parts_between : List ℕ) (one : GoneThrough es a a seen parts between parts_between) where
+    pub both : (seen_after : List Bool) (parts_after : List ℕ) → GoneThrough es b b between parts_between seen_after parts_after → GoneThrough es a b seen parts seen_after parts_after
+    both seen_after parts_after other = record {
+      stay = λ m mark. other.stay m (one.stay m mark);
+      first = other.stay a one.first;
+      second = other.first;
+      on = λ root waits g below again. other.on root waits (one.on root waits g below below) again again;
+    }
+
+    pub second_too_many : TooManyParts es b b between parts_between → TooManyParts es a b seen parts
+    second_too_many many root waits g below again = many root waits (one.on root waits g below below) again again
+
+  pub first_too_many : (a b : ℕ) (seen : List Bool) (parts : List ℕ) → TooManyParts es a a seen parts → TooManyParts es a b seen parts
+  first_too_many a b seen parts many root waits g below again = many root waits g below below
+
+  -- in either order
+  pub exchanged : (a b : ℕ) (seen : List Bool) (parts : List ℕ) (seen_after : List Bool) (parts_after : List ℕ) → GoneThrough es a b seen parts seen_after parts_after → GoneThrough es b a seen parts seen_after parts_after
+  exchanged a b seen parts seen_after parts_after gone = record { stay = gone.stay; first = gone.second; second = gone.first; on = λ root waits g below again. gone.on root waits g again below }
+
+  pub exchanged_too_many : (a b : ℕ) (seen : List Bool) (parts : List ℕ) → TooManyParts es a b seen parts → TooManyParts es b a seen parts
+  exchanged_too_many a b seen parts many root waits g below again = many root waits g again below
 
   -- ---- the start
 
-  -- the entry alone is marked, and there are no parts
-  pub started : (root : ℕ) (parts : List ℕ) → root < length es → parts ≡ [] → Passed es root (set (replicate 1024 false) root true) parts (root + 1)
-  started root parts there empty = record {
-    begun = mark_there (replicate 1024 false) root room;
-    entered = λ m marked. subst (λ (i : ℕ). i < length es) (sym (single m marked)) there;
-    only = λ m marked P p. subst (λ (i : ℕ). PrimePart (formula_at es i) P) (single m marked) p;
-    operands = λ m a b h marked is. absurd (omega (arith, h, single m marked));
-    prime = λ m h marked p. absurd (omega (arith, h, single m marked));
-    met = λ k m is. absurd (none k m is);
-    once = λ i j before within e. omega (arith, ap (length {A = ℕ}) empty);
+  unmarked : (n : ℕ) → Marked (replicate 1024 false) n → ⊥
+  unmarked n m = elim (cases_lt n 1024) [
+    | inl within ↦ true≢false (sym m ∙ get_or-replicate 1024 n false false within)
+    | inr past ↦ true≢false (sym m ∙ get_or_past (replicate 1024 false) n false (omega (arith, length-replicate 1024 false)))
+  ]
+
+  -- nothing is marked, and there are no parts
+  pub started : (root : ℕ) → Going es root (λ _. false) (replicate 1024 false) []
+  started root = record {
+    entered = λ m marked. absurd (unmarked m marked);
+    only = λ m marked. absurd (unmarked m marked);
+    operands = λ m a b marked ready is. absurd (unmarked m marked);
+    prime = λ m marked ready p. absurd (unmarked m marked);
+    met = λ k m is. absurd (some_not_none (sym is));
+    once = λ i j before within e. omega arith;
   }
-    where
-      room : root < length (replicate 1024 false)
-      room = omega (arith, length-replicate 1024 false, entered.within)
-
-      unmarked : (n : ℕ) → Marked (replicate 1024 false) n → ⊥
-      unmarked n m = elim (cases_lt n 1024) [
-        | inl within ↦ true≢false (sym m ∙ get_or-replicate 1024 n false false within)
-        | inr past ↦ true≢false (sym m ∙ get_or_past (replicate 1024 false) n false (omega (arith, length-replicate 1024 false)))
-      ]
-
-      single : (m : ℕ) → Marked (set (replicate 1024 false) root true) m → m ≡ root
-      single m marked = elim (mark_new (replicate 1024 false) root room m marked) [ inl e ↦ e | inr old ↦ absurd (unmarked m old) ]
-
-      none : (k n : ℕ) → slice_get parts k ≡ Some n → ⊥
-      none k n is = some_not_none (sym is ∙ ap (λ (ps : List ℕ). slice_get ps k) empty)
 
   -- ---- the end
 
-  module _ (root : ℕ) (seen : List Bool) (parts : List ℕ) (g : Passed es root seen parts 0) where
+  module _ (root : ℕ) (seen : List Bool) (parts : List ℕ) (g : Going es root (λ _. false) seen parts) (begun : Marked seen root) where
     -- the prime parts of a marked entry are there, if those of marked entries below are
     module _ (n : ℕ) (mark : Marked seen n) (P : Formula)
         (below : (a : ℕ) → a < n → Marked seen a → PrimePart (formula_at es a) P → Member (formulas_at es parts) P) where
       lone : (e : Entry) → get_or es n False ≡ e → Prime e → of_entry (formula_at es) e ≡ P → Member (formulas_at es parts) P
       lone e is prime same =
           let there = g.entered n mark in
-          let place = g.prime n (omega arith) mark (subst Prime (sym is) prime) in
+          let place = g.prime n mark refl (subst Prime (sym is) prime) in
           (place.0, part_member es parts place.0 n place.1 ∙ ap Some (formula_is n there e is ∙ same))
 
       by_kind : (e : Entry) → get_or es n False ≡ e → PrimePart (of_entry (formula_at es) e) P → Member (formulas_at es parts) P
@@ -294,7 +342,7 @@ module _ (es : List Entry) (entered : Entered es) where
       by_kind (Atom a) is p = lone (Atom a) is tt p
       by_kind (Implies a b) is p =
           let low = lower_operands n a b (g.entered n mark) is in
-          let both = g.operands n a b (omega arith) mark is in
+          let both = g.operands n a b mark refl is in
           elim p [ inl l ↦ below a low.0 both.0 l | inr r ↦ below b low.1 both.1 r ]
       by_kind (Next a) is p = lone (Next a) is tt p
       by_kind (Always a) is p = lone (Always a) is tt p
@@ -309,12 +357,12 @@ module _ (es : List Entry) (entered : Entered es) where
     ended = record {
       entered = g.entered;
       gathered = λ n mark P p. has_below (n + 1) n (omega arith) mark P p;
-      closed = λ n a b mark is. g.operands n a b (omega arith) mark is;
+      closed = λ n a b mark is. g.operands n a b mark refl is;
       met = λ k n is.
           let so = g.met k n is in
-          (so.1.0, subst (λ (X : Formula). X ≢ falsum) (sym (formula_at_is es entered.lower n (g.entered n so.1.0))) (not_false (formula_at es) (get_or es n False) so.1.1));
+          (so.0, subst (λ (X : Formula). X ≢ falsum) (sym (formula_at_is es entered.lower n (g.entered n so.0))) (not_false (formula_at es) (get_or es n False) so.1));
       once = g.once;
     }
 
     pub few : length (prime_parts (formula_at es root)) ≤ length parts
-    few = at_least root parts (λ P p. has_below (root + 1) root (omega arith) g.begun P p)
+    few = at_least root parts (λ P p. has_below (root + 1) root (omega arith) begun P p)

@@ -31,24 +31,30 @@ Prime (Implies a b) = ⊥
 Prime (Next a) = ⊤
 Prime (Always a) = ⊤
 
--- the entries from a number on are gone through, for an entry's formula: it is marked, marked entries have none but its prime parts, and of those that are gone through the operands are marked, or they are parts
-pub record Passed (es : List Entry) (root : ℕ) (seen : List Bool) (parts : List ℕ) (number : ℕ) : Type 0 where
-  pub begun : Marked seen root
+-- an entry's formula has no prime parts but those of another's
+abbrev pub Below : List Entry → ℕ → ℕ → Type 0
+Below es root n = (P : Formula) → PrimePart (formula_at es n) P → PrimePart (formula_at es root) P
+
+-- while an entry's formula is gone through: marked entries have none but its prime parts, and each but those that wait has its operands marked, or is a part; parts are marked, and stand once
+pub record Going (es : List Entry) (root : ℕ) (waits : ℕ → Bool) (seen : List Bool) (parts : List ℕ) : Type 0 where
   pub entered : (n : ℕ) → Marked seen n → n < length es
-  pub only : (n : ℕ) → Marked seen n → (P : Formula) → PrimePart (formula_at es n) P → PrimePart (formula_at es root) P
-  pub operands : (n a b : ℕ) → number ≤ n → Marked seen n → slice_index_or es n False ≡ Implies a b → Marked seen a × Marked seen b
-  pub prime : (n : ℕ) → number ≤ n → Marked seen n → Prime (slice_index_or es n False) → Member parts n
-  pub met : (k n : ℕ) → slice_get parts k ≡ Some n → (number ≤ n) × (Marked seen n × Prime (slice_index_or es n False))
+  pub only : (n : ℕ) → Marked seen n → Below es root n
+  pub operands : (n a b : ℕ) → Marked seen n → waits n ≡ false → slice_index_or es n False ≡ Implies a b → Marked seen a × Marked seen b
+  pub prime : (n : ℕ) → Marked seen n → waits n ≡ false → Prime (slice_index_or es n False) → Member parts n
+  pub met : (k n : ℕ) → slice_get parts k ≡ Some n → Marked seen n × Prime (slice_index_or es n False)
   pub once : Distinct parts
 
--- if the entries from one number on are gone through, so are those from another on with what is there afterwards
-abbrev pub PassedOn : List Entry → List Bool → List ℕ → ℕ → List Bool → List ℕ → ℕ → Type 0
-PassedOn es seen parts number seen_after parts_after number_after =
-    (root : ℕ) → Passed es root seen parts number → Passed es root seen_after parts_after number_after
+-- two entries are gone through, or one that is named twice: both are marked, marks stay, and what is right for a formula that has their prime parts stays right, whatever waits
+pub record GoneThrough (es : List Entry) (a b : ℕ) (seen : List Bool) (parts : List ℕ) (seen_after : List Bool) (parts_after : List ℕ) : Type 0 where
+  pub stay : (n : ℕ) → Marked seen n → Marked seen_after n
+  pub first : Marked seen_after a
+  pub second : Marked seen_after b
+  pub on : (root : ℕ) (waits : ℕ → Bool) → Going es root waits seen parts → Below es root a → Below es root b → Going es root waits seen_after parts_after
 
--- if they are, the formula has more prime parts than are taken
-abbrev pub TooManyParts : List Entry → List Bool → List ℕ → ℕ → Type 0
-TooManyParts es seen parts number = (root : ℕ) → Passed es root seen parts number → 12 < length (prime_parts (formula_at es root))
+-- a formula that has their prime parts has more than are taken
+abbrev pub TooManyParts : List Entry → ℕ → ℕ → List Bool → List ℕ → Type 0
+TooManyParts es a b seen parts =
+    (root : ℕ) (waits : ℕ → Bool) → Going es root waits seen parts → Below es root a → Below es root b → 12 < length (prime_parts (formula_at es root))
 
 -- marked entries have their prime parts among the parts, and their operands are marked; a part is marked, is not false, and stands once
 pub record Gathered (es : List Entry) (seen : List Bool) (parts : List ℕ) : Type 0 where

@@ -25,10 +25,12 @@ type Wide = [u64; WORDS];
 // A pass has all choices for so many parts.
 const PASS_PARTS: usize = 10;
 
-// Rows for a formula of few steps, of some, and for any.
+// Rows for a formula of few steps, of some, of many, and for any.
 const FEW_ROWS: usize = 64;
 
 const SOME_ROWS: usize = 256;
+
+const MANY_ROWS: usize = 512;
 
 const ALL_ROWS: usize = FIRST_STEP + ENTRIES;
 
@@ -53,6 +55,8 @@ pub(crate) fn true_everywhere(
         is_true_at::<FEW_ROWS>(steps, place, parts.len())
     } else if FIRST_STEP + steps.len() <= SOME_ROWS {
         is_true_at::<SOME_ROWS>(steps, place, parts.len())
+    } else if FIRST_STEP + steps.len() <= MANY_ROWS {
+        is_true_at::<MANY_ROWS>(steps, place, parts.len())
     } else {
         is_true_at::<ALL_ROWS>(steps, place, parts.len())
     }

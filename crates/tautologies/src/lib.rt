@@ -8,7 +8,7 @@ ghost use Rattle.tautologies.specs.Verdicts.{taut_verdict_in};
 use calculus::Verdict;
 use evaluating::true_everywhere;
 use formulas::{FORMULAS, FormulaList};
-use gathering::{Parts, TooMany, gather};
+use gathering::{Parts, TooMany, meet};
 
 mod choosing;
 mod evaluating;
@@ -29,9 +29,8 @@ pub fn taut_verdict(formulas: &FormulaList, number: u16) -> Verdict
         return Verdict::NotAdmitted;
     }
     let mut seen = [false; ENTRIES];
-    seen[usize::from(number)] = true;
     let mut parts = Parts::new(0);
-    match gather(entries, number, &mut seen, &mut parts) {
+    match meet(entries, number, &mut seen, &mut parts) {
         Ok(()) => {
             if true_everywhere(entries, number, &seen, parts.as_slice()) {
                 Verdict::Admitted

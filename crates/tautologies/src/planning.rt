@@ -33,21 +33,24 @@ pub(crate) fn make_plan(entries: &[Entry], seen: &[bool; ENTRIES], parts: &[u16]
     requires few { length parts.now ≤ 12 }
     ensures { Planned entries.now seen.now parts.now result.steps result.places }
 {
-    let mut places = part_places(parts);
-    let mut steps = Steps::new(Step { left: 0, right: 0 });
+    // in its place from the start, so that no array is copied
+    let mut plan = Plan {
+        steps: Steps::new(Step { left: 0, right: 0 }),
+        places: part_places(parts),
+    };
     for (number, entry) in entries.iter().enumerate() {
         if seen[number] {
             if let Entry::Implies(left, right) = *entry {
                 let step = Step {
-                    left: places[usize::from(left)],
-                    right: places[usize::from(right)],
+                    left: plan.places[usize::from(left)],
+                    right: plan.places[usize::from(right)],
                 };
-                places[number] = (FIRST_STEP + steps.as_slice().len()) as u16;
-                steps.push(step);
+                plan.places[number] = (FIRST_STEP + plan.steps.as_slice().len()) as u16;
+                plan.steps.push(step);
             }
         }
     }
-    Plan { steps, places }
+    plan
 }
 
 // The places of the parts, in their order, and that of false for all other entries.

@@ -36,5 +36,8 @@ returns-then-steps-le-FEW_ROWS c = told (goal.at.returns-then-steps-le-FEW_ROWS 
 pub returns-then-steps-le-SOME_ROWS : goal.returns-then-steps-le-SOME_ROWS
 returns-then-steps-le-SOME_ROWS c = told (goal.at.returns-then-steps-le-SOME_ROWS c).After-from-place c.is_true_at-then-steps-le-SOME_ROWS.result c.is_true_at-then-steps-le-SOME_ROWS.ensures
 
-pub returns-else-steps-le-SOME_ROWS : goal.returns-else-steps-le-SOME_ROWS
-returns-else-steps-le-SOME_ROWS c = told (goal.at.returns-else-steps-le-SOME_ROWS c).After-from-place c.is_true_at-else-steps-le-SOME_ROWS.result c.is_true_at-else-steps-le-SOME_ROWS.ensures
+pub returns-then-steps-le-MANY_ROWS : goal.returns-then-steps-le-MANY_ROWS
+returns-then-steps-le-MANY_ROWS c = told (goal.at.returns-then-steps-le-MANY_ROWS c).After-from-place c.is_true_at-then-steps-le-MANY_ROWS.result c.is_true_at-then-steps-le-MANY_ROWS.ensures
+
+pub returns-else-steps-le-MANY_ROWS : goal.returns-else-steps-le-MANY_ROWS
+returns-else-steps-le-MANY_ROWS c = told (goal.at.returns-else-steps-le-MANY_ROWS c).After-from-place c.is_true_at-else-steps-le-MANY_ROWS.result c.is_true_at-else-steps-le-MANY_ROWS.ensures

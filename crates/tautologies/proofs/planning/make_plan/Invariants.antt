@@ -3,4 +3,4 @@ use Rattle.tautologies.proofs.Plans.{Going}
 use Rattle.tautologies.proofs.planning.make_plan.Given as goal
 
 abbrev pub invariant-loop-number : goal.invariant-loop-number
-invariant-loop-number l = Going l.entries l.seen l.parts l.places l.steps l.number
+invariant-loop-number l = Going l.entries l.seen l.parts l.plan.places l.plan.steps l.number
