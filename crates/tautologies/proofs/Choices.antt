@@ -3,7 +3,6 @@ use Rattle.std.proofs.Common.{◌≡◌, ℕ, zero, suc, ◌+◌, ◌-◌, ◌*�
 use Rattle.std.proofs.lemmas.Bool.{lt-ltb}
 use Rattle.rows.specs.Row.{testBit, pack}
 use Rattle.rows.proofs.Bits.{bit_pack, pack_lt, is_pack, bit_mod, bit_shr, bit_zero, bit_ones}
-use Rattle.rows.proofs.Rows.{Says}
 
 -- within a word, the places of the numbers that have a bit
 abbrev pub masks : List ℕ
@@ -41,12 +40,3 @@ all_word w p many set = is_pack 64 (2 ^ 64 - 1) (λ i. testBit (64 * w + i) p) (
 pub none_word : (w p : ℕ) → 6 ≤ p → testBit w (p - 6) ≡ false → 0 ≡ pack 64 (λ i. testBit (64 * w + i) p)
 none_word w p many clear = is_pack 64 0 (λ i. testBit (64 * w + i) p) (omega arith)
     (λ i h. bit_zero i ∙ sym clear ∙ high w p i many h)
-
--- the words of a block are those of its row
-pub word_says : (block k p : ℕ) → Says (pack 64 (λ i. testBit (64 * (4 * block + k) + i) p)) k (λ i. testBit (256 * block + i) p)
-word_says block k p = record {
-  fits = pack_lt 64 (λ i. testBit (64 * (4 * block + k) + i) p);
-  at = λ i h.
-      let e : 64 * (4 * block + k) + i ≡ 256 * block + (64 * k + i) = omega arith in
-      bit_pack 64 (λ j. testBit (64 * (4 * block + k) + j) p) i h ∙ ap (λ n. testBit n p) e;
-}

@@ -1,16 +1,7 @@
 -- Lists that are filled place by place.
-use Rattle.std.proofs.Common.{[], ap, ◌≡◌, ℕ, ◌+◌, ◌<◌, List, length, get_or, set, sym, ◌∙◌, subst, inl, inr, arith, get_or-set_other, get_or-set_same}
-use Rattle.std.proofs.lemmas.Bool.{cases_eq}
+use Rattle.std.proofs.Common.{[], ap, ◌≡◌, ℕ, ◌<◌, List, length, get_or, set, sym, ◌∙◌, get_or-set_other, get_or-set_same}
 use Rattle.std.proofs.lemmas.Option.{slice_get-get_or}
 use Rattle.formulas.proofs.Members.{some_same}
-
--- a list that says f below n does so below n + 1 once f n is written there
-pub filled : (f : ℕ → ℕ) (row : List ℕ) (n x : ℕ) → n < length row → ((w : ℕ) → w < n → get_or row w 0 ≡ f w) → x ≡ f n → (w : ℕ) → w < n + 1 → get_or (set row n x) w 0 ≡ f w
-filled f row n x room below is w h =
-    elim (cases_eq w n) [
-      | inl e ↦ subst (λ (k : ℕ). get_or (set row n x) k 0 ≡ f k) (sym e) (get_or-set_same row n x 0 room ∙ is)
-      | inr ne ↦ get_or-set_other row n w x 0 ne ∙ below w (omega (arith, ne))
-    ]
 
 -- a word of a row that was written, and of any other
 pub word_same : (rows : List (List ℕ)) (p w : ℕ) (row : List ℕ) → p < length rows → get_or (get_or (set rows p row) p []) w 0 ≡ get_or row w 0
