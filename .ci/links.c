@@ -131,7 +131,7 @@ static void add_implication(unsigned left, unsigned right)
     add(record, sizeof record);
 }
 
-/* Atom 0 and as many implications as there can be, each from the one before; a tautology line states the last, which is from it to itself. */
+/* Atom 0 and as many implications as there can be, each from the one before to itself, so that none is deeper; a tautology line states the last. */
 static void make_deep_file(void)
 {
     static const uint8_t atom[] = {5, 0, 1, 0, 1, 0, 0, 0, 0};
@@ -140,7 +140,7 @@ static void make_deep_file(void)
     file_length = 0;
     add(atom, sizeof atom);
     for (number = 1; number < 1023; number++)
-        add_implication(number - 1, 0);
+        add_implication(number - 1, number - 1);
     add_implication(1022, 1022);
     add(seal_and_line, sizeof seal_and_line);
 }

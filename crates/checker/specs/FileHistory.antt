@@ -5,9 +5,9 @@ use Rattle.logic.specs.Run.{Run}
 use Rattle.model.specs.History.{History, open_stage, sealed_stage, then_seal, after}
 use Rattle.model.specs.LastRows.{LastRows, with_last}
 use Rattle.model.specs.Making.{Makes}
+use Rattle.runs.specs.Bytes.{Bytes}
 use Rattle.records.specs.declared.fault.Fault.{Fault}
 use Rattle.records.specs.Records.{records}
-use Rattle.records.specs.WrittenRecords.{Bytes}
 use Rattle.files.specs.Reading.{front, body}
 use Rattle.files.specs.CallsMade.{front_calls, body_calls}
 use Rattle.files.specs.FileReads.{FrontReads, BodyReads}

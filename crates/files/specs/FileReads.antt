@@ -4,6 +4,7 @@ use Rattle.refusals.specs.declared.Refusal.{Refusal}
 use Rattle.calculus.specs.Pages.{Page}
 use Rattle.model.specs.Case as cases
 use Rattle.model.specs.History.{open_stage, sealed_stage, Call, after_call, Refused}
+use Rattle.runs.specs.Bytes.{Bytes}
 use Rattle.records.specs.declared.fault.Cause.{Cause}
 use Rattle.records.specs.declared.fault.Cause.TheVariants.{Record, Payload, Case}
 use Rattle.records.specs.declared.fault.Fault.{Fault}
@@ -11,7 +12,7 @@ use Rattle.records.specs.declared.fault.PayloadFault.{PayloadFault}
 use Rattle.records.specs.declared.fault.RecordFault.{RecordFault}
 use Rattle.records.specs.declared.fault.RecordFault.TheVariants.{ShortHead, NoSeal}
 use Rattle.records.specs.Records.{Content}
-use Rattle.records.specs.WrittenRecords.{written, Bytes, Writable, NoRecord}
+use Rattle.records.specs.WrittenRecords.{written, Writable, NoRecord}
 use Rattle.records.specs.Asking.{FrontAsks, BodyAsks}
 use Rattle.files.specs.Reading.{front, body}
 

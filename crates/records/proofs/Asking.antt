@@ -6,7 +6,7 @@ use Rattle.std.proofs.lemmas.Bool.{cond_both, cond-true, cond-false, eqb-true, e
 use Rattle.logic.specs.Run.{Run}
 use Rattle.runs.specs.declared.fault.RunFault.{RunFault}
 use Rattle.runs.specs.declared.fault.RunFault.TheVariants.{WrongLength as RunLength, NoRun as RunNumbers}
-use Rattle.runs.specs.Bytes.{word}
+use Rattle.runs.specs.Bytes.{Bytes, word}
 use Rattle.runs.specs.Pulses.{pulse_check, pulse_run}
 use Rattle.runs.specs.Tables.{table_check, table_run}
 use Rattle.calculus.specs.Pages.{Page}
@@ -14,7 +14,7 @@ use Rattle.model.specs.History.{open_stage, sealed_stage, Call, form, assume, li
 use Rattle.records.specs.declared.fault.PayloadFault.{PayloadFault}
 use Rattle.records.specs.declared.front_record.FrontRecord.{FrontRecord}
 use Rattle.records.specs.Payloads.{place_of, record_of_front, Request, claim_in, passed, refute_request, refute_in, record_of_body}
-use Rattle.records.specs.WrittenRecords.{two_bytes, Bytes}
+use Rattle.records.specs.WrittenRecords.{two_bytes}
 use Rattle.records.proofs.TwoBytes.{byte_at, next_two, word_fits, last_two, four_bytes}
 use Rattle.records.specs.Asking.{front_asked, body_asked, FrontAsks, front_form, front_assume, front_seal, front_kind_not_allowed, front_form_length, front_assume_length, front_seal_length, PlaceField, empty_place, place_of_line, RefutationAsks, refutation_asked, claim_cut, run_length_wrong, run_numbers_wrong, BodyAsks, body_form, body_line, body_table, body_pulses, body_kind_not_allowed, body_form_length, body_line_length, RecordsAsk}
 

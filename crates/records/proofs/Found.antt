@@ -3,11 +3,11 @@ use Rattle.std.proofs.Common.{◌≡◌, ℕ, zero, suc, ◌+◌, ◌<◌, ◌�
 use Rattle.std.proofs.ByRecursion.{All-take, All-drop}
 use Rattle.std.proofs.lemmas.List.{length-append, drop_all, take-append-drop}
 use Rattle.std.proofs.lemmas.Bool.{cond_both, eqb-false, eqb-true, ltb-true, ltb-false}
-use Rattle.runs.specs.Bytes.{word}
+use Rattle.runs.specs.Bytes.{Bytes, word}
 use Rattle.records.specs.declared.fault.RecordFault.{RecordFault}
 use Rattle.records.specs.declared.fault.RecordFault.TheVariants.{PayloadCut}
 use Rattle.records.specs.Records.{Content, Records, none, bad, more, first_content, led_by, cut, records}
-use Rattle.records.specs.WrittenRecords.{two_bytes, written, Bytes, Writable, NoRecord, short_head, payload_cut}
+use Rattle.records.specs.WrittenRecords.{two_bytes, written, Writable, NoRecord, short_head, payload_cut}
 use Rattle.records.proofs.ReadBack.{behind_written}
 use Rattle.records.proofs.TwoBytes.{word_fits, four_bytes}
 

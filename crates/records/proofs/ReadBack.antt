@@ -4,9 +4,9 @@ use native.Mathlib.Nat.{mod-add-div}
 use Rattle.std.proofs.ByRecursion.{All-append}
 use Rattle.std.proofs.lemmas.List.{length-append, take_at, drop_at, drop-drop}
 use Rattle.std.proofs.lemmas.Bool.{cond-false, ne_eqb, le-ltb}
-use Rattle.runs.specs.Bytes.{word}
+use Rattle.runs.specs.Bytes.{Bytes, word}
 use Rattle.records.specs.Records.{Content, more, first_content, led_by, records}
-use Rattle.records.specs.WrittenRecords.{two_bytes, written, all_written, Bytes, Writable, RecordsReadBack}
+use Rattle.records.specs.WrittenRecords.{two_bytes, written, all_written, Writable, RecordsReadBack}
 use Rattle.records.proofs.Cutting.{records_led}
 
 two_bytes_fit : (n : ℕ) → n < 65536 → Bytes (two_bytes n)

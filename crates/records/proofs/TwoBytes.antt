@@ -2,8 +2,8 @@
 use Rattle.std.proofs.Common.{◌≡◌, ℕ, ◌+◌, ◌*◌, ◌/◌, ◌%◌, ◌<◌, ◌≤◌, List, [], ◌∷◌, ◌++◌, length, get_or, drop, sym, ap, ap₂, ◌∙◌, add-one, arith, drop-cons}
 use Rattle.std.proofs.ByRecursion.{All-get_or}
 use Rattle.std.proofs.lemmas.List.{drop_all}
-use Rattle.runs.specs.Bytes.{word}
-use Rattle.records.specs.WrittenRecords.{two_bytes, Bytes}
+use Rattle.runs.specs.Bytes.{Bytes, word}
+use Rattle.records.specs.WrittenRecords.{two_bytes}
 
 -- the two bytes of the number that they are
 two_bytes_of : (low high : ℕ) → low < 256 → two_bytes (low + 256 * high) ≡ low ∷ high ∷ []

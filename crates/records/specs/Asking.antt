@@ -7,12 +7,13 @@ use Rattle.runs.specs.Pulses.{pulse_check, pulse_run}
 use Rattle.runs.specs.Tables.{table_check, table_run}
 use Rattle.calculus.specs.Pages.{Page}
 use Rattle.model.specs.History.{open_stage, sealed_stage, Call, form, assume, line, refute}
+use Rattle.runs.specs.Bytes.{Bytes}
 use Rattle.records.specs.declared.fault.PayloadFault.{PayloadFault}
 use Rattle.records.specs.declared.fault.PayloadFault.TheVariants.{KindNotAllowed, WrongLength, NoRun}
 use Rattle.records.specs.declared.front_record.FrontRecord.{FrontRecord}
 use Rattle.records.specs.declared.front_record.FrontRecord.TheVariants.{FormRecord, AssumeRecord, SealRecord}
 use Rattle.records.specs.Payloads.{record_of_front, Request, form_request, line_request, refute_request, record_of_body}
-use Rattle.records.specs.WrittenRecords.{two_bytes, Bytes}
+use Rattle.records.specs.WrittenRecords.{two_bytes}
 
 -- the call that the program makes for a record of the front; for the seal record none
 abbrev pub front_asked : Result FrontRecord PayloadFault → Result (Option (Call open_stage)) PayloadFault

@@ -1,6 +1,7 @@
 -- Records written as bytes, and that these are read back.
 use Rattle.std.specs.Prelude.{◌≡◌, ℕ, ◌/◌, ◌%◌, ◌<◌, List, [], ◌∷◌, ◌++◌, length}
 use Rattle.std.specs.List.{AllByRecursion}
+use Rattle.runs.specs.Bytes.{Bytes}
 use Rattle.records.specs.declared.fault.RecordFault.{RecordFault}
 use Rattle.records.specs.declared.fault.RecordFault.TheVariants.{ShortHead, PayloadCut}
 use Rattle.records.specs.Records.{Content, Records, none, more, records}
@@ -22,10 +23,6 @@ all_written (r ∷ rs) = written r ++ all_written rs
 abbrev pub listed : List Content → Records
 listed [] = none
 listed (r ∷ rs) = more r.kind r.payload (listed rs)
-
--- numbers that fit a byte each
-abbrev pub Bytes : List ℕ → Type 0
-Bytes ns = AllByRecursion (λ n. n < 256) ns
 
 -- a record of bytes whose kind and payload's length have room in two bytes each
 pub record Writable (r : Content) : Type 0 where
