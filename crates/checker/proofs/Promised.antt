@@ -1,7 +1,8 @@
 -- What is promised of the way from a file to its listing.
 use Rattle.model.proofs.Enough.{scratch_suffices}
+use Rattle.model.proofs.Making.{one_made}
 use Rattle.model.proofs.Promises as cases
-use Rattle.files.proofs.CallsMade.{front_makes_calls, body_makes_calls}
+use Rattle.files.proofs.CallsMade.{front_makes_calls, body_makes_calls, front_makes_history, body_makes_history}
 use Rattle.files.proofs.FileReads.{front_exact, body_exact, body_past_end}
 use Rattle.files.proofs.LastRows.{body_leaves_last_rows}
 use Rattle.records.proofs.Asking.{records_ask}
@@ -24,6 +25,9 @@ promises = record {
   offsets_within = offsets_within;
   front_makes_calls = front_makes_calls;
   body_makes_calls = body_makes_calls;
+  front_makes_history = front_makes_history;
+  body_makes_history = body_makes_history;
+  one_made = one_made;
   body_keeps_scratch_length = body_keeps_scratch_length;
   body_leaves_last_rows = body_leaves_last_rows;
   page_publishes = page_publishes;

@@ -14,8 +14,9 @@ use Rattle.model.specs.Promises.{CalculusGives, ScratchSuffices}
 use Rattle.model.specs.Promises as cases
 use Rattle.model.specs.History.{History, open_stage, sealed_stage, new, after}
 use Rattle.model.specs.Entering.{Publishes}
+use Rattle.model.specs.Making.{OneMade}
 use Rattle.files.specs.FileReads.{FrontExact, BodyExact, BodyPastEnd, OffsetsWithin}
-use Rattle.files.specs.CallsMade.{FrontMakesCalls, BodyMakesCalls, BodyKeepsScratchLength, BodyLeavesLastRows}
+use Rattle.files.specs.CallsMade.{FrontMakesCalls, BodyMakesCalls, FrontMakesHistory, BodyMakesHistory, BodyKeepsScratchLength, BodyLeavesLastRows}
 use Rattle.records.specs.Asking.{RecordsAsk}
 use Rattle.records.specs.WrittenRecords.{RecordsReadBack}
 use Rattle.listing.specs.declared.unread.Unread.{Unread}
@@ -87,6 +88,9 @@ pub record FilePromises : Type 0 where
   pub offsets_within : OffsetsWithin
   pub front_makes_calls : FrontMakesCalls
   pub body_makes_calls : BodyMakesCalls
+  pub front_makes_history : FrontMakesHistory
+  pub body_makes_history : BodyMakesHistory
+  pub one_made : OneMade
   pub body_keeps_scratch_length : BodyKeepsScratchLength
   pub body_leaves_last_rows : BodyLeavesLastRows
   pub page_publishes : PagePublishes

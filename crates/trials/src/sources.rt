@@ -1,33 +1,33 @@
 // What run sources tell, and which bytes give no run.
 use runs::{PulseRun, RunFault, RunSource, TableRun};
 
-// A loop of 4, and the atom 0 from position 1 on at every second one. The stem ends where the pulse begins.
+// A loop of 4, and the atom 17 from position 1 on at every second one. The stem ends where the pulse begins.
 #[test]
 fn pulses_are_told(rt: HostRuntime) {
-    let run = PulseRun::new(&[4, 0, 0, 0, 1, 0, 2, 0, 1, 0]);
+    let run = PulseRun::new(&[4, 0, 17, 0, 1, 0, 2, 0, 1, 0]);
     assert_eq!(rt; run.stem(), 1);
     assert_eq!(rt; run.loop_length(), 4);
     for (position, truth) in [(0, false), (1, true), (2, false), (3, true), (4, false)] {
-        assert_eq!(rt; run.says(0, position), truth);
+        assert_eq!(rt; run.says(17, position), truth);
         assert_eq!(rt; run.says(1, position), false);
         assert_eq!(rt; run.says(32, position), false);
     }
-    assert_eq!(rt; run.says(0, 5), false);
+    assert_eq!(rt; run.says(17, 5), false);
 }
 
-// A stem of 1 and a loop of 2, with the atom 0 at 0, the atom 31 at 1, and both at 2.
+// A stem of 1 and a loop of 2, with the atom 9 at 0, the atoms 0 and 17 at 1, and the atoms 14 and 25 at 2.
 #[test]
 fn tables_are_told(rt: HostRuntime) {
-    let run = TableRun::new(&[1, 0, 2, 0, 1, 0, 0, 0, 0, 0, 0, 128, 1, 0, 0, 128]);
+    let run = TableRun::new(&[1, 0, 2, 0, 0, 2, 0, 0, 1, 0, 2, 0, 0, 64, 0, 2]);
     assert_eq!(rt; run.stem(), 1);
     assert_eq!(rt; run.loop_length(), 2);
-    for (position, low, high) in [(0, true, false), (1, false, true), (2, true, true)] {
-        assert_eq!(rt; run.says(0, position), low);
-        assert_eq!(rt; run.says(31, position), high);
-        assert_eq!(rt; run.says(1, position), false);
-        assert_eq!(rt; run.says(32, position), false);
+    for (atom, position, other) in [(9, 0, 1), (0, 1, 2), (17, 1, 2), (14, 2, 0), (25, 2, 0)] {
+        assert!(rt; run.says(atom, position) && !run.says(atom, other));
     }
-    assert_eq!(rt; run.says(0, 3), false);
+    for atom in [1, 8, 16, 24, 32] {
+        assert!(rt; !run.says(atom, 0) && !run.says(atom, 1) && !run.says(atom, 2));
+    }
+    assert_eq!(rt; run.says(14, 3), false);
 }
 
 // The pulse with the largest first position stands between two others.

@@ -16,7 +16,7 @@ use Rattle.checker.specs.Checked.{checked}
 use Rattle.files.specs.Reading.{front, body}
 use Rattle.records.specs.Records.{records}
 use Rattle.worked.proofs.Together.{◌also◌, all}
-use Rattle.worked.specs.Files.{IsListed, files, limit_files, sixteen_assumptions, seventeen_assumptions, twelve_prime_parts, thirteen_prime_parts, last_of_256_positions, behind_the_last, run_of_257_positions, lines_513, formulas_1025, formula_257, line_257, FilesListed}
+use Rattle.worked.specs.Files.{IsListed, files, limit_files, sixteen_assumptions, seventeen_assumptions, twelve_prime_parts, thirteen_prime_parts, last_position, behind_the_last, one_position_too_many, one_line_too_many, one_formula_too_many, high_formula, high_line, FilesListed}
 
 one_by_one : AllByRecursion IsListed files
 unfolding calls.form calls.assume form_answer form_after published derived lines.line judging.truth judging.refute table_check table_run pulse_check pulse_run first_false_from first_failing line_of_counts line_of_standing standing_lines_to line_of_ending checked front body records digits
@@ -38,36 +38,36 @@ thirteen_prime_parts_listed : IsListed thirteen_prime_parts
 unfolding calls.form calls.assume form_answer form_after published derived lines.line judging.truth judging.refute table_check table_run pulse_check pulse_run first_false_from first_failing line_of_counts line_of_standing standing_lines_to line_of_ending checked front body records digits thirteen_prime_parts
 thirteen_prime_parts_listed = refl
 
-last_of_256_positions_listed : IsListed last_of_256_positions
-unfolding calls.form calls.assume form_answer form_after published derived lines.line judging.truth judging.refute table_check table_run pulse_check pulse_run first_false_from first_failing line_of_counts line_of_standing standing_lines_to line_of_ending checked front body records digits last_of_256_positions
-last_of_256_positions_listed = refl
+last_position_listed : IsListed last_position
+unfolding calls.form calls.assume form_answer form_after published derived lines.line judging.truth judging.refute table_check table_run pulse_check pulse_run first_false_from first_failing line_of_counts line_of_standing standing_lines_to line_of_ending checked front body records digits last_position
+last_position_listed = refl
 
 behind_the_last_listed : IsListed behind_the_last
 unfolding calls.form calls.assume form_answer form_after published derived lines.line judging.truth judging.refute table_check table_run pulse_check pulse_run first_false_from first_failing line_of_counts line_of_standing standing_lines_to line_of_ending checked front body records digits behind_the_last
 behind_the_last_listed = refl
 
-run_of_257_positions_listed : IsListed run_of_257_positions
-unfolding calls.form calls.assume form_answer form_after published derived lines.line judging.truth judging.refute table_check table_run pulse_check pulse_run first_false_from first_failing line_of_counts line_of_standing standing_lines_to line_of_ending checked front body records digits run_of_257_positions
-run_of_257_positions_listed = refl
+one_position_too_many_listed : IsListed one_position_too_many
+unfolding calls.form calls.assume form_answer form_after published derived lines.line judging.truth judging.refute table_check table_run pulse_check pulse_run first_false_from first_failing line_of_counts line_of_standing standing_lines_to line_of_ending checked front body records digits one_position_too_many
+one_position_too_many_listed = refl
 
-lines_513_listed : IsListed lines_513
-unfolding calls.form calls.assume form_answer form_after published derived lines.line judging.truth judging.refute table_check table_run pulse_check pulse_run first_false_from first_failing line_of_counts line_of_standing standing_lines_to line_of_ending checked front body records digits lines_513
-lines_513_listed = refl
+one_line_too_many_listed : IsListed one_line_too_many
+unfolding calls.form calls.assume form_answer form_after published derived lines.line judging.truth judging.refute table_check table_run pulse_check pulse_run first_false_from first_failing line_of_counts line_of_standing standing_lines_to line_of_ending checked front body records digits one_line_too_many
+one_line_too_many_listed = refl
 
-formulas_1025_listed : IsListed formulas_1025
-unfolding calls.form calls.assume form_answer form_after published derived lines.line judging.truth judging.refute table_check table_run pulse_check pulse_run first_false_from first_failing line_of_counts line_of_standing standing_lines_to line_of_ending checked front body records digits formulas_1025
-formulas_1025_listed = refl
+one_formula_too_many_listed : IsListed one_formula_too_many
+unfolding calls.form calls.assume form_answer form_after published derived lines.line judging.truth judging.refute table_check table_run pulse_check pulse_run first_false_from first_failing line_of_counts line_of_standing standing_lines_to line_of_ending checked front body records digits one_formula_too_many
+one_formula_too_many_listed = refl
 
-formula_257_listed : IsListed formula_257
-unfolding calls.form calls.assume form_answer form_after published derived lines.line judging.truth judging.refute table_check table_run pulse_check pulse_run first_false_from first_failing line_of_counts line_of_standing standing_lines_to line_of_ending checked front body records digits formula_257
-formula_257_listed = refl
+high_formula_listed : IsListed high_formula
+unfolding calls.form calls.assume form_answer form_after published derived lines.line judging.truth judging.refute table_check table_run pulse_check pulse_run first_false_from first_failing line_of_counts line_of_standing standing_lines_to line_of_ending checked front body records digits high_formula
+high_formula_listed = refl
 
-line_257_listed : IsListed line_257
-unfolding calls.form calls.assume form_answer form_after published derived lines.line judging.truth judging.refute table_check table_run pulse_check pulse_run first_false_from first_failing line_of_counts line_of_standing standing_lines_to line_of_ending checked front body records digits line_257
-line_257_listed = refl
+high_line_listed : IsListed high_line
+unfolding calls.form calls.assume form_answer form_after published derived lines.line judging.truth judging.refute table_check table_run pulse_check pulse_run first_false_from first_failing line_of_counts line_of_standing standing_lines_to line_of_ending checked front body records digits high_line
+high_line_listed = refl
 
 each_limit : AllByRecursion IsListed limit_files
-each_limit = sixteen_assumptions_listed also seventeen_assumptions_listed also twelve_prime_parts_listed also thirteen_prime_parts_listed also last_of_256_positions_listed also behind_the_last_listed also run_of_257_positions_listed also lines_513_listed also formulas_1025_listed also formula_257_listed also line_257_listed also tt
+each_limit = sixteen_assumptions_listed also seventeen_assumptions_listed also twelve_prime_parts_listed also thirteen_prime_parts_listed also last_position_listed also behind_the_last_listed also one_position_too_many_listed also one_line_too_many_listed also one_formula_too_many_listed also high_formula_listed also high_line_listed also tt
 
 pub files_listed : FilesListed
 files_listed = (all IsListed files one_by_one, all IsListed limit_files each_limit)

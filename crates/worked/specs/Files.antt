@@ -298,8 +298,8 @@ thirteen_prime_parts =
     ++ line (codes "refused 3 9 229"))
 
 -- a run of 256 positions, at the last of them
-unfoldable pub last_of_256_positions : FileRow
-last_of_256_positions =
+unfoldable pub last_position : FileRow
+last_position =
     listed
     (form_record 1 0 0
     ++ seal_record
@@ -321,8 +321,8 @@ behind_the_last =
     ++ line (codes "refused 3 11 31"))
 
 -- a run of 257 positions
-unfoldable pub run_of_257_positions : FileRow
-run_of_257_positions =
+unfoldable pub one_position_too_many : FileRow
+one_position_too_many =
     listed
     (form_record 1 0 0
     ++ seal_record
@@ -331,8 +331,8 @@ run_of_257_positions =
     ++ line (codes "refused 3 10 13"))
 
 -- one line more than a case holds: v0, assumed, by rule 0
-unfoldable pub lines_513 : FileRow
-lines_513 =
+unfoldable pub one_line_too_many : FileRow
+one_line_too_many =
     listed
     (form_record 1 0 0
     ++ assume_record 0
@@ -343,8 +343,8 @@ lines_513 =
     ++ line (codes "refused 3 7 6163"))
 
 -- one formula more than a case takes: 32 atoms, and 993 implications
-unfoldable pub formulas_1025 : FileRow
-formulas_1025 =
+unfoldable pub one_formula_too_many : FileRow
+one_formula_too_many =
     listed
     (many 32 (λ a. form_record 1 a 0)
     ++ many 993 (λ k. form_record 2 (k / 32) (k % 32))
@@ -352,22 +352,22 @@ formulas_1025 =
     (line (codes "formulas 1024 assumptions 0 lines 0 refutations 0")
     ++ line (codes "refused 3 3 9216"))
 
--- 258 formulas, the last one v7 → v1: assumed, and held by rule 0
-unfoldable pub formula_257 : FileRow
-formula_257 =
+-- 259 formulas, the last one v7 → v2: assumed, and held by rule 0
+unfoldable pub high_formula : FileRow
+high_formula =
     listed
     (many 32 (λ a. form_record 1 a 0)
-    ++ many 226 (λ k. form_record 2 (k / 32) (k % 32))
-    ++ (2 ∷ 0 ∷ 2 ∷ 0 ∷ 1 ∷ 1 ∷ [])
+    ++ many 227 (λ k. form_record 2 (k / 32) (k % 32))
+    ++ (2 ∷ 0 ∷ 2 ∷ 0 ∷ 2 ∷ 1 ∷ [])
     ++ seal_record
-    ++ (8 ∷ 0 ∷ 4 ∷ 0 ∷ 0 ∷ 0 ∷ 1 ∷ 1 ∷ 255 ∷ 255 ∷ 255 ∷ 255 ∷ []))
-    (line (codes "formulas 258 assumptions 1 lines 1 refutations 0")
-    ++ line (codes "257 derived 0")
-    ++ line (codes "read 2344"))
+    ++ (8 ∷ 0 ∷ 4 ∷ 0 ∷ 0 ∷ 0 ∷ 2 ∷ 1 ∷ 255 ∷ 255 ∷ 255 ∷ 255 ∷ []))
+    (line (codes "formulas 259 assumptions 1 lines 1 refutations 0")
+    ++ line (codes "258 derived 0")
+    ++ line (codes "read 2353"))
 
 -- 258 lines: v0, assumed, is held by rule 0 in all but the last, which is ○v0 by rule 6 from line 256
-unfoldable pub line_257 : FileRow
-line_257 =
+unfoldable pub high_line : FileRow
+high_line =
     listed
     (form_record 1 0 0
     ++ form_record 3 0 0
@@ -382,7 +382,7 @@ line_257 =
 
 -- files within a limit and beyond it, and two with numbers above 255
 abbrev pub limit_files : List FileRow
-limit_files = sixteen_assumptions ∷ seventeen_assumptions ∷ twelve_prime_parts ∷ thirteen_prime_parts ∷ last_of_256_positions ∷ behind_the_last ∷ run_of_257_positions ∷ lines_513 ∷ formulas_1025 ∷ formula_257 ∷ line_257 ∷ []
+limit_files = sixteen_assumptions ∷ seventeen_assumptions ∷ twelve_prime_parts ∷ thirteen_prime_parts ∷ last_position ∷ behind_the_last ∷ one_position_too_many ∷ one_line_too_many ∷ one_formula_too_many ∷ high_formula ∷ high_line ∷ []
 
 -- every row is listed so
 abbrev pub FilesListed : Type 0
