@@ -3,10 +3,10 @@ use Rattle.std.proofs.Common.{◌≡◌, ℕ, ◌⊎◌, cond, List, [], ◌∷�
 use Rattle.std.specs.List.{slice_get}
 use Rattle.logic.specs.Formula.{Formula, falsum, atom, implies, next, always}
 use Rattle.logic.specs.Same.{same}
-use Rattle.formulas.specs.Adding.{Distinct, Member, place}
-use Rattle.formulas.proofs.Members.{nth_push, nth_pushed, nth_stays, distinct_push}
-use Rattle.formulas.proofs.Places.{place_is, none_there}
-use Rattle.formulas.proofs.Likeness.{same_tells}
+use Rattle.lists.specs.Adding.{Distinct, Member, place}
+use Rattle.lists.proofs.Members.{nth_push, nth_pushed, nth_stays, distinct_push}
+use Rattle.lists.proofs.Places.{place_is, none_there}
+use Rattle.logic.proofs.Same.{same_tells}
 use Rattle.calculus.specs.PrimeParts.{PrimePart, add, gathered}
 use Rattle.calculus.specs.Promises.{PrimePartsListed}
 

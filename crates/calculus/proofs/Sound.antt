@@ -4,7 +4,7 @@ use Rattle.std.specs.List.{slice_get}
 use Rattle.logic.specs.Formula.{Formula}
 use Rattle.logic.specs.Run.{Run}
 use Rattle.logic.specs.Truth.{Throughout}
-use Rattle.formulas.specs.Adding.{Member}
+use Rattle.lists.specs.Adding.{Member}
 use Rattle.calculus.specs.Pages.{Given}
 use Rattle.calculus.specs.Derivations.{DerivationLine, PremiseOf, no_premise, on_earlier, Justified, by_assumption, by_rule, by_derived_rule}
 use Rattle.calculus.specs.Promises.{DerivationsSound}

@@ -4,8 +4,8 @@ use Rattle.std.proofs.lemmas.Bool.{cond_both, and_parts, and_from, false≢true}
 use Rattle.logic.specs.Formula.{Formula, falsum, atom, implies, next, always}
 use Rattle.logic.specs.Same.{same}
 use Rattle.logic.proofs.Same.{same_true, same_refl}
-use Rattle.formulas.specs.Adding.{Member}
-use Rattle.formulas.proofs.Members.{some_same, some_not_none}
+use Rattle.lists.specs.Adding.{Member}
+use Rattle.lists.proofs.Members.{some_same, some_not_none}
 use Rattle.calculus.specs.Tautology.{eval, Tautology}
 use Rattle.calculus.specs.PrimeParts.{PrimePart, prime_parts, put, every_way, is_tautology}
 use Rattle.calculus.specs.Promises.{PrimePartsMatter}

@@ -2,7 +2,7 @@
 use Rattle.std.specs.Prelude.{◌≡◌, Bool, true, false, cond, ◌&&◌, ◌⊎◌, List, [], ◌∷◌, ◌++◌, is_some}
 use Rattle.logic.specs.Formula.{Formula, falsum, atom, implies, next, always}
 use Rattle.logic.specs.Same.{same}
-use Rattle.formulas.specs.Adding.{place}
+use Rattle.lists.specs.Adding.{place}
 use Rattle.calculus.specs.Tautology.{eval}
 
 -- P is a prime part of a formula: an atom, or with ○ or □ on top, and reached by going down through implications only

@@ -3,7 +3,7 @@ use Rattle.std.specs.Prelude.{◌≡◌, ℕ, ◌<◌, ◌≤◌, Bool, ◌⊎�
 use Rattle.logic.specs.Formula.{Formula}
 use Rattle.logic.specs.Run.{Run}
 use Rattle.logic.specs.Truth.{Throughout}
-use Rattle.formulas.specs.Adding.{Distinct, Member}
+use Rattle.lists.specs.Adding.{Distinct, Member}
 use Rattle.calculus.specs.declared.verdict.Verdict.TheVariants.{Admitted, BeyondLimit}
 use Rattle.calculus.specs.Tautology.{eval}
 use Rattle.calculus.specs.PrimeParts.{PrimePart, prime_parts}

@@ -11,7 +11,7 @@ use Rattle.calculus.specs.declared.verdict.Verdict.{Verdict}
 use Rattle.calculus.specs.declared.verdict.Verdict.TheVariants.{Admitted, NotAdmitted}
 use Rattle.calculus.specs.Pages.{Page}
 use Rattle.formulas.specs.Forming.{numbered}
-use Rattle.formulas.proofs.Members.{nth_there}
+use Rattle.lists.proofs.Members.{nth_there}
 use Rattle.rules.specs.declared.page.Question.{Question}
 use Rattle.rules.specs.Questions.{premise_entered, all_entered, verdict_on}
 use Rattle.model.specs.declared.line.Line.{Line}

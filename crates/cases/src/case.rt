@@ -1,12 +1,13 @@
 // A case at a stage: the formulas that are entered, those of them that are assumed, and what the stage holds.
 ghost use Rattle.std.specs.Prelude.{◌≤◌, length};
-ghost use Rattle.formulas.specs.Adding.{Distinct};
+ghost use Rattle.lists.specs.Adding.{Distinct};
 ghost use Rattle.formulas.specs.Listed.{formulas_of};
 ghost use Rattle.model.specs.Breaking.{HaveRuns, LinesFollow};
 ghost use Rattle.model.specs.Limits.{AssumptionsEntered, LinesEntered};
 
 use crate::stage::{Open, Sealed, Stage};
-use formulas::{FormulaList, Table};
+use formulas::FormulaList;
+use lists::Table;
 use refusals::Refusal;
 use std::alloc::{AllocError, Global};
 

@@ -2,17 +2,17 @@
 use Rattle.std.proofs.Common.{◌≡◌, ℕ, Bool, true, ◌&&◌, eqb, List, [], ◌∷◌, ◌++◌, length, Ok, Err, Result, sym, subst, inl, inr, arith}
 use Rattle.std.proofs.lemmas.Bool.{and_parts, cond_both, cases_lt}
 use Rattle.std.proofs.lemmas.List.{length_push, get_or_push, get_or_append_left}
-use Rattle.refusals.specs.declared.Refusal.{Refusal}
-use Rattle.refusals.specs.declared.Refusal.TheVariants.{UnknownKind, BadField}
+use Rattle.formulas.specs.declared.refusal.FormRefusal.{FormRefusal}
+use Rattle.formulas.specs.declared.refusal.FormRefusal.TheVariants.{UnknownKind, BadField}
 use Rattle.formulas.specs.declared.entry.Entry.{Entry}
 use Rattle.formulas.specs.declared.entry.Entry.TheVariants.{False, Atom, Implies, Next, Always}
 use Rattle.formulas.specs.Entries.{placed, when_placed, asked, Lower}
 
 -- an entry that is asked for may stand behind n others
-abbrev Fine : ℕ → Result Entry Refusal → Type 0
+abbrev Fine : ℕ → Result Entry FormRefusal → Type 0
 Fine n r = (e : Entry) → r ≡ Ok e → placed n e ≡ true
 
-err_fine : (n : ℕ) (x : Refusal) → Fine n (Err x)
+err_fine : (n : ℕ) (x : FormRefusal) → Fine n (Err x)
 err_fine n x e is = absurd (let z : ◌≡◌ {A = ℕ} 0 1 = cc in omega arith)
 
 when_fine : (n : ℕ) (d : Entry) (unused : Bool) → Fine n (when_placed n d unused)

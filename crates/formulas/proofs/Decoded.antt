@@ -8,7 +8,7 @@ use Rattle.std.proofs.lemmas.List.{get_or_append_left}
 use Rattle.logic.specs.Formula.{Formula, falsum, implies, next, always}
 use Rattle.formulas.specs.declared.entry.Entry.{Entry}
 use Rattle.formulas.specs.declared.entry.Entry.TheVariants.{False, Atom, Implies, Next, Always}
-use Rattle.formulas.specs.Adding.{Distinct}
+use Rattle.lists.specs.Adding.{Distinct}
 use Rattle.formulas.specs.Entries.{placed, Lower}
 use Rattle.formulas.specs.Decode.{of_entry, read_to, formula_at, decoded}
 

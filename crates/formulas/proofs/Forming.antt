@@ -5,24 +5,26 @@ use Rattle.std.specs.Option.{ok_or}
 use Rattle.std.proofs.lemmas.Bool.{cases_lt, cond-true, cond-false, lt-ltb, le-ltb}
 use Rattle.std.proofs.lemmas.List.{length_push, get_or_push, get_or_append_left, ext_get_or}
 use Rattle.std.proofs.lemmas.Option.{slice_get-get_or}
-use Rattle.refusals.specs.declared.Refusal.{Refusal}
-use Rattle.refusals.specs.declared.Refusal.TheVariants.{FormulasFull}
+use Rattle.formulas.specs.declared.refusal.FormRefusal.{FormRefusal}
+use Rattle.formulas.specs.declared.refusal.FormRefusal.TheVariants.{FormulasFull}
 use Rattle.logic.specs.Formula.{Formula, falsum}
 use Rattle.logic.specs.Same.{same}
 use Rattle.formulas.specs.declared.entry.Entry.{Entry}
 use Rattle.formulas.specs.declared.entry.Entry.TheVariants.{False}
-use Rattle.formulas.specs.Adding.{Distinct, place, number_for, add_answer, add_after}
+use Rattle.lists.specs.Adding.{Distinct, place, number_for, add_answer, add_after}
 use Rattle.formulas.specs.Entries.{placed, alike, asked, Lower}
 use Rattle.formulas.specs.Decode.{of_entry, formula_at, decoded}
 use Rattle.formulas.specs.Forming.{numbered, answer_for, after_for, entries_for, form_answer, form_after, entries_after}
-use Rattle.formulas.proofs.Members.{some_same, nth_within, distinct_push}
-use Rattle.formulas.proofs.Places.{place_is, place_only, place_none, none_there, same_place}
-use Rattle.formulas.proofs.Likeness.{same_tells, entry_eq, entry_tells, alike_tells}
+use Rattle.lists.proofs.Members.{some_same, nth_within, distinct_push}
+use Rattle.lists.proofs.Places.{place_is, place_only, place_none, none_there, same_place}
+use Rattle.logic.proofs.Same.{same_tells}
+use Rattle.formulas.proofs.Likeness.{entry_eq, entry_tells, alike_tells}
 use Rattle.formulas.proofs.Decoded.{of_entry_same, of_entry_injective, formula_at_is, formula_kept, formula_injective, decoded_length, decoded_at, decoded_nth}
 use Rattle.formulas.proofs.Asked.{asked_fine, lower_push}
+use Rattle.lists.proofs.Added.{add_longer}
 
 -- what `form` ensures, by the entries before and after
-pub record Formed (es es' : List Entry) (kind left right : ℕ) (r : Result ℕ Refusal) : Type 0 where
+pub record Formed (es es' : List Entry) (kind left right : ℕ) (r : Result ℕ FormRefusal) : Type 0 where
   pub answer : r ≡ form_answer (decoded es) kind left right
   pub after : decoded es' ≡ form_after (decoded es) kind left right
   pub entries : es' ≡ entries_after es kind left right
@@ -168,7 +170,7 @@ formed es low distinct kind left right e is None found =
     ]
 
 -- what is refused before an entry is there changes nothing
-pub formed_refused : (es : List Entry) (low : Lower es) (distinct : Distinct es) (kind left right : ℕ) (x : Refusal) → asked (length es) kind left right ≡ Err x → Formed es es kind left right (Err x)
+pub formed_refused : (es : List Entry) (low : Lower es) (distinct : Distinct es) (kind left right : ℕ) (x : FormRefusal) → asked (length es) kind left right ≡ Err x → Formed es es kind left right (Err x)
 unfolding form_answer form_after entries_after
 formed_refused es low distinct kind left right x is =
     let here : asked (length (decoded es)) kind left right ≡ Err x = ap (λ (n : ℕ). asked n kind left right) (decoded_length es) ∙ is in
@@ -180,3 +182,12 @@ formed_refused es low distinct kind left right x is =
       apart = distinct;
       lower = low;
     }
+
+-- no list of formulas gets shorter
+pub form_longer : (fs : List Formula) (kind left right : ℕ) → length fs ≤ length (form_after fs kind left right)
+unfolding form_after
+form_longer fs kind left right = longer (asked (length fs) kind left right)
+  where
+    longer : (r : Result Entry FormRefusal) → length fs ≤ length (after_for fs r)
+    longer (Ok e) = add_longer 1024 fs _ _
+    longer (Err x) = omega arith

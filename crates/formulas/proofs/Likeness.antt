@@ -1,4 +1,4 @@
--- Tests of likeness that are equality: of numbers, entries and formulas.
+-- Tests of likeness of entries that are equality.
 use Rattle.std.proofs.Common.{◌≡◌, ℕ, zero, suc, Bool, true, ◌&&◌, eqb, refl, sym, ap, ◌∙◌}
 use Rattle.std.proofs.lemmas.Bool.{and_parts, and_from, eqb-true, eq-eqb, false≢true}
 use Rattle.logic.specs.Same.{same}
@@ -7,13 +7,7 @@ use Rattle.formulas.specs.declared.entry.Entry.{Entry}
 use Rattle.formulas.specs.declared.entry.Entry.TheVariants.{False, Atom, Implies, Next, Always}
 use Rattle.formulas.specs.Entries.{kind_of, left_of, right_of, alike}
 use Rattle.formulas.specs.contracts.entry.EntryPartialEq.TheImpl.{eq-value}
-use Rattle.formulas.proofs.Places.{IsEquality}
-
-pub eqb_tells : IsEquality eqb
-eqb_tells = record { sound = eqb-true; itself = λ n. eq-eqb n n refl }
-
-pub same_tells : IsEquality same
-same_tells = record { sound = same_true; itself = same_refl }
+use Rattle.lists.proofs.Places.{IsEquality}
 
 -- the comparison that is derived for entries
 abbrev pub entry_eq : Entry → Entry → Bool

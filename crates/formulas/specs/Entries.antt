@@ -1,7 +1,7 @@
 -- Entries of a formula list: one formula each, with the numbers of earlier entries as operands.
 use Rattle.std.specs.Prelude.{◌≡◌, ℕ, ◌<◌, Bool, true, cond, ◌&&◌, List, length, Ok, Err, Result, ◌==◌, nat_le, nat_lt, slice_index_or}
-use Rattle.refusals.specs.declared.Refusal.{Refusal}
-use Rattle.refusals.specs.declared.Refusal.TheVariants.{UnknownKind, BadField}
+use Rattle.formulas.specs.declared.refusal.FormRefusal.{FormRefusal}
+use Rattle.formulas.specs.declared.refusal.FormRefusal.TheVariants.{UnknownKind, BadField}
 use Rattle.formulas.specs.declared.entry.Entry.{Entry}
 use Rattle.formulas.specs.declared.entry.Kind.{Kind}
 use Rattle.formulas.specs.declared.entry.Kind.TheVariants as kinds
@@ -42,7 +42,7 @@ placed n (Next a) = nat_lt a n
 placed n (Always a) = nat_lt a n
 
 -- the kind with a number
-abbrev pub kind_numbered : ℕ → Result Kind Refusal
+abbrev pub kind_numbered : ℕ → Result Kind FormRefusal
 kind_numbered n =
     cond (n == 0) (Ok kinds.False)
     (cond (n == 1) (Ok kinds.Atom)
@@ -52,11 +52,11 @@ kind_numbered n =
     (Err UnknownKind)))))
 
 -- an entry whose unused fields are 0, if it may stand there
-abbrev pub when_placed : ℕ → Entry → Bool → Result Entry Refusal
+abbrev pub when_placed : ℕ → Entry → Bool → Result Entry FormRefusal
 when_placed n e unused = cond (unused && placed n e) (Ok e) (Err BadField)
 
 -- the entry that a kind and two fields ask for where n are entered
-abbrev pub asked : ℕ → ℕ → ℕ → ℕ → Result Entry Refusal
+abbrev pub asked : ℕ → ℕ → ℕ → ℕ → Result Entry FormRefusal
 asked n kind left right =
     cond (kind == 0) (when_placed n False (left == 0 && right == 0))
     (cond (kind == 1) (when_placed n (Atom left) (right == 0))

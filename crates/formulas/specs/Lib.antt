@@ -1,4 +1,4 @@
-pub mod Adding
+pub mod Refusals
 pub mod Entries
 pub mod Decode
 pub mod Forming

@@ -2,7 +2,7 @@
 ghost use Rattle.std.specs.Prelude.{◌≡◌, ℕ, ◌<◌, false};
 ghost use Rattle.formulas.specs.Entries.{asked, kind_numbered, placed};
 
-use refusals::Refusal;
+use crate::refusal::FormRefusal;
 
 // Atoms are numbered from 0 up to this one.
 const LAST_ATOM: u16 = 31;
@@ -28,18 +28,18 @@ enum Kind {
 }
 
 impl TryFrom<u8> for Kind {
-    type Error = Refusal;
+    type Error = FormRefusal;
 
     ghost try_from_gives = { λ number r. r ≡ kind_numbered number };
 
-    fn try_from(number: u8) -> Result<Kind, Refusal> {
+    fn try_from(number: u8) -> Result<Kind, FormRefusal> {
         match number {
             0 => Ok(Kind::False),
             1 => Ok(Kind::Atom),
             2 => Ok(Kind::Implies),
             3 => Ok(Kind::Next),
             4 => Ok(Kind::Always),
-            _ => Err(Refusal::UnknownKind),
+            _ => Err(FormRefusal::UnknownKind),
         }
     }
 }
@@ -52,7 +52,7 @@ impl Entry {
         kind: u8,
         left: u16,
         right: u16,
-    ) -> Result<Entry, Refusal>
+    ) -> Result<Entry, FormRefusal>
         ensures { result ≡ asked entered kind left right }
     {
         let left_entered = usize::from(left) < entered;
@@ -63,7 +63,7 @@ impl Entry {
             Kind::Implies if left_entered && right_entered => Ok(Entry::Implies(left, right)),
             Kind::Next if left_entered && right == 0 => Ok(Entry::Next(left)),
             Kind::Always if left_entered && right == 0 => Ok(Entry::Always(left)),
-            _ => Err(Refusal::BadField),
+            _ => Err(FormRefusal::BadField),
         }
     }
 

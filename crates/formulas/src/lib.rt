@@ -3,8 +3,8 @@
 
 mod entry;
 mod list;
-mod table;
+mod refusal;
 
 pub use entry::Entry;
 pub use list::{FORMULAS, FormulaList};
-pub use table::Table;
+pub use refusal::FormRefusal;

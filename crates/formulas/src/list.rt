@@ -1,11 +1,11 @@
 // The formula list: a table of entries that are distinct and stand behind their operands.
 ghost use Rattle.std.specs.Prelude.{◌≤◌, length};
-ghost use Rattle.formulas.specs.Adding.{Distinct};
+ghost use Rattle.lists.specs.Adding.{Distinct};
 ghost use Rattle.formulas.specs.Entries.{Lower};
 
 use crate::entry::Entry;
-use crate::table::Table;
-use refusals::Refusal;
+use lists::Table;
+use crate::refusal::FormRefusal;
 use std::alloc::{AllocError, Global};
 
 // The most formulas that a list holds.
@@ -23,7 +23,7 @@ pub struct FormulaList {
 impl FormulaList {
     ghost use Rattle.std.specs.Prelude.{◌≡◌, [], length, IfOk};
     ghost use Rattle.std.specs.List.{slice_get};
-    ghost use Rattle.formulas.specs.Adding.{Distinct};
+    ghost use Rattle.lists.specs.Adding.{Distinct};
     ghost use Rattle.formulas.specs.Forming.{entries_after, form_answer, form_after};
     ghost use Rattle.formulas.specs.Listed.{entries_of, formulas_of};
 
@@ -61,7 +61,7 @@ impl FormulaList {
     // The number of the formula of this kind with these fields, which is entered if it is not there.
     // No two numbers stand for one formula, so formulas are compared by their numbers.
     // Three parameters and no struct, the kind by its number: the public call keeps those that it has.
-    pub fn form(&mut self, kind: u8, left: u16, right: u16) -> Result<u16, Refusal>
+    pub fn form(&mut self, kind: u8, left: u16, right: u16) -> Result<u16, FormRefusal>
         ensures answer { result ≡ form_answer (formulas_of self.old) kind left right }
         ensures after { formulas_of self.new ≡ form_after (formulas_of self.old) kind left right }
         ensures entries { entries_of self.new ≡ entries_after (entries_of self.old) kind left right }
@@ -70,6 +70,6 @@ impl FormulaList {
         let entry = Entry::asked_for(self.len(), kind, left, right)?;
         self.table
             .enter_from(entry.lowest(), entry)
-            .ok_or(Refusal::FormulasFull)
+            .ok_or(FormRefusal::FormulasFull)
     }
 }

@@ -5,7 +5,7 @@ use Rattle.std.proofs.lemmas.Bool.{cases_eq, cond-true, cond-false, lt-ltb, le-l
 use Rattle.std.proofs.lemmas.List.Sums.{position_or_len_is}
 use Rattle.std.proofs.lemmas.Option.{slice_get-get_or}
 use Rattle.std.specs.Option.{ok_or}
-use Rattle.formulas.proofs.Members.{some_same, nth_within}
+use Rattle.lists.proofs.Members.{some_same, nth_within}
 use Rattle.model.specs.declared.standing.Standing.{Standing}
 use Rattle.model.specs.declared.standing.Standing.TheVariants.{Open}
 

@@ -2,7 +2,7 @@
 use Rattle.std.proofs.Common.{List, Ok, Err, get_or, ltb, sym, ap, ◌∙◌, ◌≡◌, ℕ, zero, suc, ◌+◌, ◌<◌, ◌≤◌, ◌++◌, length, inl, inr, add-one, arith, length-append}
 use Rattle.std.proofs.lemmas.Bool.{cases_lt, cond-true, lt-ltb}
 use Rattle.std.proofs.lemmas.Option.{slice_get-get_or}
-use Rattle.formulas.proofs.Members.{some_same}
+use Rattle.lists.proofs.Members.{some_same}
 use Rattle.refusals.specs.declared.Refusal.TheVariants.{NotEntered}
 use Rattle.model.specs.declared.standing.Standing.{Standing}
 use Rattle.model.specs.declared.standing.Standing.TheVariants.{Open}

@@ -2,6 +2,7 @@
 use Rattle.std.proofs.Common.{◌≡◌, true, sym, refl, ap, ap₂}
 use mathlib.Core.Bool.{false≢true}
 use Rattle.std.proofs.lemmas.Bool.{eqb-true, eq-eqb, and_parts, and_from}
+use Rattle.lists.proofs.Places.{IsEquality}
 use Rattle.logic.specs.Formula.{Formula, falsum, atom, implies, next, always}
 use Rattle.logic.specs.Same.{same}
 
@@ -38,3 +39,6 @@ same_refl (atom a) = eq-eqb a a refl
 same_refl (implies A B) = and_from (same A A) (same B B) (same_refl A) (same_refl B)
 same_refl (next A) = same_refl A
 same_refl (always A) = same_refl A
+
+pub same_tells : IsEquality same
+same_tells = record { sound = same_true; itself = same_refl }

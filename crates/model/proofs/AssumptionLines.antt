@@ -4,9 +4,9 @@ use Rattle.std.specs.List.{slice_get}
 use Rattle.std.proofs.lemmas.Bool.{and_parts, and_from, cond_both, cond-true, false≢true}
 use Rattle.calculus.specs.declared.verdict.Verdict.{Verdict}
 use Rattle.calculus.specs.declared.verdict.Verdict.TheVariants.{Admitted, NotAdmitted, BeyondLimit}
-use Rattle.formulas.specs.Adding.{place}
-use Rattle.formulas.proofs.Places.{place_is, none_there}
-use Rattle.formulas.proofs.Likeness.{eqb_tells}
+use Rattle.lists.specs.Adding.{place}
+use Rattle.lists.proofs.Places.{place_is, none_there}
+use Rattle.lists.proofs.Places.{eqb_tells}
 use Rattle.model.specs.declared.line.Line.{Line}
 use Rattle.model.specs.Case.{Case}
 use Rattle.model.specs.Lines.{assumption_verdict}

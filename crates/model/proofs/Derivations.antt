@@ -4,28 +4,30 @@ use Rattle.std.specs.List.{slice_get}
 use Rattle.std.proofs.lemmas.Bool.{cases_lt}
 use Rattle.logic.specs.Formula.{Formula}
 use Rattle.calculus.specs.Derivations.{DerivationLine, Derivation}
-use Rattle.formulas.specs.Adding.{Distinct}
-use Rattle.formulas.proofs.Members.{some_same, nth_within, nth_there}
+use Rattle.refusals.proofs.Answers.{ok_not_err}
+use Rattle.lists.specs.Adding.{Distinct}
+use Rattle.lists.proofs.Growing.{grown_same}
+use Rattle.lists.proofs.Members.{some_same, nth_within, nth_there}
 use Rattle.model.specs.declared.line.Line.{Line}
 use Rattle.model.specs.Case.{Case}
 use Rattle.model.specs.Describes.{Number}
 use Rattle.model.specs.History.{sealed_stage, Call, line, History, then, after, Formed, formed_earlier, Assumed, assumed_earlier, HeldLine, line_last, line_earlier}
 use Rattle.model.specs.Entering.{Ready, Between, form_between, truth_between, refute_between, refused_between, entered_as, Entering, not_begun, other_call, next_line}
 use Rattle.model.specs.Promises.{DerivationsHeld, EnteredHeld, PublishedPagePublishes}
-use Rattle.model.proofs.Exact.{form_exact}
-use Rattle.model.proofs.Forming.{form_enters_no_line}
-use Rattle.model.proofs.LineChanges.{line_refused}
-use Rattle.model.proofs.RefuteChanges.{truth_changes_nothing, refute_enters_no_line}
+use Rattle.model.proofs.Changes.{Answered, BringsLine, changes}
 use Rattle.model.proofs.NextLine.{Along, next_answers, next_along}
 use Rattle.model.proofs.Histories.{call_keeps_formulas, formed_there, assumed_there, limits_kept}
 use Rattle.model.proofs.HeldLines.{lines_from}
 
 -- a call that comes between leaves the lines as they are
 between_lines : (g : History sealed_stage) (x : Call sealed_stage) → Between g x → (after (then g x)).lines ≡ (after g).lines
-between_lines g x (form_between kind left right) = form_enters_no_line (after g) kind left right (form_exact (after g) kind left right)
-between_lines g x (truth_between r f i n) = ap (λ (d : Case). d.lines) (truth_changes_nothing (after g) r f i n)
-between_lines g x (refute_between r f i n) = refute_enters_no_line (after g) r f i n
-between_lines g x (refused_between page l e is) = ap (λ (d : Case). d.lines) (line_refused (after g) page l e is)
+between_lines g x b = grown_same (changes (after g) x).lines (none x b)
+  where
+    none : (x : Call sealed_stage) → Between g x → (n : ℕ) (l : Line) → Answered (after g) x n × BringsLine (after g) x l → ⊥
+    none x (form_between kind left right) n l brought = brought.1
+    none x (truth_between r f i m) n l brought = brought.1
+    none x (refute_between r f i m) n l brought = brought.1
+    none x (refused_between page k e is) n l brought = ok_not_err (sym brought.0 ∙ is)
 
 -- in a list where nothing stands twice, a member has one number
 one_number : {X : Type 0} (xs : List X) → Distinct xs → (i j : ℕ) (x : X) → slice_get xs i ≡ Some x → slice_get xs j ≡ Some x → i ≡ j

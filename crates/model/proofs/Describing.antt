@@ -1,10 +1,10 @@
 -- What is asked for by a kind and two fields is what they describe.
-use Rattle.std.proofs.Common.{◌≡◌, ℕ, ◌<◌, ◌≤◌, Bool, true, ◌&&◌, eqb, leb, ◌⊎◌, List, ◌++◌, length, Ok, Err, Result, sym, refl, ap, ◌∙◌, subst, ap₂, inl, inr, arith}
+use Rattle.std.proofs.Common.{◌≡◌, ℕ, ◌<◌, ◌≤◌, Bool, true, ◌&&◌, eqb, leb, ◌⊎◌, List, length, Ok, Err, Result, sym, refl, ap, ◌∙◌, subst, ap₂, inl, inr, arith}
 use lib.Dec
 use Rattle.std.proofs.lemmas.Option.{slice_get-get_or}
 use Rattle.std.proofs.lemmas.Bool.{and_parts, and_from, cond_both, cond-true, eqb-true, eqb-false, ltb-true, lt-ltb, leb-true, le-leb}
-use Rattle.refusals.specs.declared.Refusal.{Refusal}
-use Rattle.refusals.specs.declared.Refusal.TheVariants.{UnknownKind, BadField}
+use Rattle.formulas.specs.declared.refusal.FormRefusal.{FormRefusal}
+use Rattle.formulas.specs.declared.refusal.FormRefusal.TheVariants.{UnknownKind, BadField}
 use Rattle.refusals.proofs.Answers.{ok_not_err, ok_same}
 use Rattle.logic.specs.Formula.{Formula, falsum, implies, next, always}
 use Rattle.formulas.specs.declared.entry.Entry.{Entry}
@@ -12,12 +12,12 @@ use Rattle.formulas.specs.declared.entry.Entry.TheVariants.{False, Atom, Implies
 use Rattle.formulas.specs.Entries.{placed, when_placed, asked}
 use Rattle.formulas.specs.Decode.{of_entry}
 use Rattle.formulas.specs.Forming.{numbered}
-use Rattle.formulas.proofs.Members.{some_same, nth_within, nth_append_left}
+use Rattle.lists.proofs.Members.{some_same, nth_within}
 use Rattle.model.specs.Describes.{Number, Describes, false_kind, atom_kind, implies_kind, next_kind, always_kind}
 
 module _ (fs : List Formula) (kind left right : ℕ) where
   -- an entry that is asked for stands for what is described
-  abbrev Describing : Result Entry Refusal → Type 0
+  abbrev Describing : Result Entry FormRefusal → Type 0
   Describing r = (e : Entry) → r ≡ Ok e → Describes fs kind left right (of_entry (numbered fs) e)
 
   when_describing : (d : Entry) (unused : Bool) → (unused ≡ true → placed (length fs) d ≡ true → Describes fs kind left right (of_entry (numbered fs) d))
@@ -61,8 +61,8 @@ module _ (fs : List Formula) (kind left right : ℕ) where
       absurd (ok_not_err (sym is)))))))
 
   -- a refusal is for the kind or for a field
-  abbrev Refusing : Result Entry Refusal → Type 0
-  Refusing r = (x : Refusal) → r ≡ Err x → ((x ≡ UnknownKind) × (4 < kind)) ⊎ ((x ≡ BadField) × (kind ≤ 4))
+  abbrev Refusing : Result Entry FormRefusal → Type 0
+  Refusing r = (x : FormRefusal) → r ≡ Err x → ((x ≡ UnknownKind) × (4 < kind)) ⊎ ((x ≡ BadField) × (kind ≤ 4))
 
   when_refusing : (d : Entry) (unused : Bool) → kind ≤ 4 → Refusing (when_placed (length fs) d unused)
   when_refusing d unused known =
@@ -111,10 +111,9 @@ describes_one fs kind left right A B d e =
     sym p.2 ∙ ap (of_entry (numbered fs)) same_entry ∙ q.2
 
 -- more formulas leave what is described
-pub describes_more : (fs gs : List Formula) {kind left right : ℕ} {A : Formula} → Describes fs kind left right A → Describes (fs ++ gs) kind left right A
-describes_more fs gs false_kind = false_kind
-describes_more fs gs (atom_kind a small) = atom_kind a small
-describes_more fs gs (implies_kind l r A B left right) =
-    implies_kind l r A B (nth_append_left fs gs l (nth_within fs l left) ∙ left) (nth_append_left fs gs r (nth_within fs r right) ∙ right)
-describes_more fs gs (next_kind l A left) = next_kind l A (nth_append_left fs gs l (nth_within fs l left) ∙ left)
-describes_more fs gs (always_kind l A left) = always_kind l A (nth_append_left fs gs l (nth_within fs l left) ∙ left)
+pub describes_kept : {fs gs : List Formula} → ((n : ℕ) (A : Formula) → Number fs n A → Number gs n A) → {kind left right : ℕ} {A : Formula} → Describes fs kind left right A → Describes gs kind left right A
+describes_kept more false_kind = false_kind
+describes_kept more (atom_kind a small) = atom_kind a small
+describes_kept more (implies_kind l r A B left right) = implies_kind l r A B (more l A left) (more r B right)
+describes_kept more (next_kind l A left) = next_kind l A (more l A left)
+describes_kept more (always_kind l A left) = always_kind l A (more l A left)

@@ -1,5 +1,5 @@
 -- With 4 words for each of 1,024 formulas, no scratch is too short.
-use Rattle.std.proofs.Common.{◌≡◌, ℕ, ◌+◌, ◌≤◌, Bool, length, Some, None, Ok, Err, Option, Result, ap, subst, ◌≢◌, arith}
+use Rattle.std.proofs.Common.{◌≡◌, ℕ, ◌+◌, ◌≤◌, Bool, true, false, List, length, Some, None, Ok, Err, Option, Result, ap, subst, ◌≢◌, arith}
 use lib.Dec
 use Rattle.std.proofs.lemmas.Bool.{cond_both}
 use Rattle.refusals.specs.declared.Refusal.{Refusal}
@@ -15,7 +15,7 @@ use Rattle.model.specs.Outcomes.{Unjudgeable, scratch_too_short}
 use Rattle.model.specs.History.{after}
 use Rattle.model.specs.Promises.{ScratchSuffices}
 use Rattle.model.proofs.Histories.{limits_kept}
-use Rattle.model.proofs.Judged.{Checked, checked}
+use Rattle.model.proofs.Judged.{Checked, checked, RefuteGoes, unjudged, full, judged, refute_goes}
 
 err_same : {X : Type 0} {d e : Refusal} → ◌≡◌ {A = Result X Refusal} (Err d) (Err e) → d ≡ e
 err_same is = cc
@@ -32,26 +32,26 @@ module _ (c : Case) (few : length c.formulas ≤ 1024) (r : Run) (f i n : ℕ) (
   not_short : Unjudgeable c r f i n ScratchTooShort → ⊥
   not_short (scratch_too_short f_in short within less) = omega arith
 
-  behind_check : {A : Type 0} (k : Result (Unit {0}) Refusal) → Checked c r f i n k → (o : Outcome A) → Other o → Other (once_checked c k o)
-  behind_check (Ok done) judgeable o other = other
-  behind_check (Err e) unjudgeable o other = λ is. not_short (subst (Unjudgeable c r f i n) (err_same is) unjudgeable)
-
   truth_other : Other (truth c r f i n)
   unfolding truth
-  truth_other = behind_check (check c r f i n) (checked c r f i n) (unchanged c (Ok (true_at c r f i))) ok_not_err
+  truth_other = by (check c r f i n) (checked c r f i n)
+    where
+      by : (k : Result (Unit {0}) Refusal) → Checked c r f i n k → Other (once_checked c k (unchanged c (Ok (true_at c r f i))))
+      by (Ok done) can = ok_not_err
+      by (Err e) cannot = λ is. not_short (subst (Unjudgeable c r f i n) (err_same is) cannot)
 
   by_verdict : (o : Option (ℕ × ℕ)) (b : Bool) → Other (held_by c f i (judged_by o b))
   by_verdict (Some x) b = other_number (λ is. omega arith)
-  by_verdict None b =
-      cond_both b (Err FormulaTrue) (Ok tt) (λ (v : Result (Unit {0}) Refusal). Other (held_by c f i v))
-      (λ _. other_number (λ is. omega arith)) (λ _ is. ok_not_err is)
+  by_verdict None true = other_number (λ is. omega arith)
+  by_verdict None false = ok_not_err
+
+  by_goes : {o : Outcome ℕ} {left : List ℕ → List ℕ} → RefuteGoes c r f i n o left → Other o
+  by_goes (unjudged e cannot) = λ is. not_short (subst (Unjudgeable c r f i n) (err_same is) cannot)
+  by_goes (full can most) = other_number (λ is. omega arith)
+  by_goes (judged can room v is) = subst (λ u. Other (held_by c f i u)) is (by_verdict (first_failing (true_at c r) (r.stem + r.loop) 0 c.assumptions) (true_at c r f i))
 
   refute_other : Other (refute c r f i n)
-  unfolding refute
-  refute_other = behind_check (check c r f i n) (checked c r f i n) _
-      (cond_both (Dec.ltb (length c.refutations) 64) (held_by c f i (judge c r f i)) (unchanged c (Err RefutationsFull)) Other
-      (λ _. by_verdict (first_failing (true_at c r) (r.stem + r.loop) 0 c.assumptions) (true_at c r f i))
-      (λ _. other_number (λ is. omega arith)))
+  refute_other = by_goes (refute_goes c r f i n)
 
 pub scratch_suffices : ScratchSuffices 4096
 scratch_suffices s h r f i n enough =

@@ -7,7 +7,8 @@ use Rattle.std.proofs.lemmas.Option.{get_or_from_slice_get}
 use Rattle.logic.specs.Formula.{Formula}
 use Rattle.calculus.specs.Pages.{Page}
 use Rattle.calculus.specs.Derivations.{DerivationLine, Derivation}
-use Rattle.formulas.proofs.Members.{some_same, some_not_none, nth_within, nth_there, nth_push}
+use Rattle.lists.proofs.Members.{some_same, some_not_none, nth_within, nth_there, nth_push}
+use Rattle.lists.proofs.Growing.{grown_keeps, grown_same}
 use Rattle.model.specs.Calls.{Outcome}
 use Rattle.model.specs.Case.{Case}
 use Rattle.model.specs.Describes.{Number, Describes, false_kind, atom_kind, implies_kind, next_kind, always_kind}
@@ -17,8 +18,7 @@ use Rattle.model.specs.Entering.{Publishes, Ready, entered_as, Entering, not_beg
 use Rattle.model.specs.Promises.{DerivationsCanBeEntered}
 use Rattle.model.proofs.Describing.{describes_one}
 use Rattle.model.proofs.Exact.{form_exact, assume_exact}
-use Rattle.model.proofs.Forming.{form_assumes_nothing}
-use Rattle.model.proofs.Assuming.{assume_forms_nothing, assume_keeps}
+use Rattle.model.proofs.Changes.{changes}
 use Rattle.model.proofs.Histories.{formulas_from, assumptions_from}
 use Rattle.model.proofs.HeldLines.{no_line_open, line_there}
 use Rattle.model.proofs.Derivations.{formed_still, entered_held}
@@ -84,7 +84,7 @@ module _ (D : Derivation) (fs : List Formula) (limits : WithinLimits D fs) where
             ∙ ap (λ (gs : List Formula). gs ++ A.0 ∷ []) b.formulas
             ∙ ap (λ (X : Formula). take n fs ++ X ∷ []) (sym (get_or_from_slice_get fs n A.0 A.0 A.1))
             ∙ sym (take-suc fs n A.0 within);
-        none_assumed = ap length (form_assumes_nothing c p.0 p.1 p.2 exact) ∙ b.none_assumed;
+        none_assumed = ap length (grown_same (changes {s = open_stage} c (form p.0 p.1 p.2)).assumptions (λ k g brought. brought.1)) ∙ b.none_assumed;
       }
 
   first_formed : (n : ℕ) → n ≤ length fs → FirstFormed n
@@ -119,10 +119,10 @@ module _ (D : Derivation) (fs : List Formula) (limits : WithinLimits D fs) where
       let now = now_assumed c f.0 f_in (omega (arith, b.few, within, limits.few_assumptions)) exact in
       record {
         history = then b.history (assume f.0);
-        formulas = assume_forms_nothing c f.0 exact ∙ b.formulas;
+        formulas = grown_same (changes c (assume f.0)).formulas (λ m B brought. brought.1) ∙ b.formulas;
         few = omega (arith, now.2, b.few);
         assumed = λ k B before at. elim (cases_lt k n) [
-          | inl earlier ↦ let p = b.assumed k B earlier at in (p.0, p.1, assume_keeps c f.0 exact p.0 p.1 p.2, p.3)
+          | inl earlier ↦ let p = b.assumed k B earlier at in (p.0, p.1, grown_keeps (changes c (assume f.0)).assumptions p.0 p.1 p.2, p.3)
           | inr from ↦
               let here : k ≡ n = omega (arith, before, from) in
               let same_formula : A.0 ≡ B = some_same (sym A.1 ∙ subst (λ (m : ℕ). slice_get D.assumptions m ≡ Some B) here at) in

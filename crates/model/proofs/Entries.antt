@@ -9,12 +9,12 @@ use Rattle.logic.specs.Formula.{Formula}
 use Rattle.logic.specs.Same.{same}
 use Rattle.formulas.specs.declared.entry.Entry.{Entry}
 use Rattle.formulas.specs.declared.entry.Entry.TheVariants.{False, Atom, Implies, Next, Always}
-use Rattle.formulas.specs.Adding.{Distinct}
+use Rattle.lists.specs.Adding.{Distinct}
 use Rattle.formulas.specs.Entries.{kind_of, left_of, right_of, placed, Lower}
 use Rattle.formulas.specs.Decode.{of_entry, formula_at, decoded}
-use Rattle.formulas.proofs.Members.{some_same, some_not_none}
-use Rattle.formulas.proofs.Places.{place_only}
-use Rattle.formulas.proofs.Likeness.{same_tells}
+use Rattle.lists.proofs.Members.{some_same, some_not_none}
+use Rattle.lists.proofs.Places.{place_only}
+use Rattle.logic.proofs.Same.{same_tells}
 use Rattle.formulas.proofs.Decoded.{formula_at_is, decoded_nth, decoded_length}
 use Rattle.formulas.proofs.Forming.{decoded_distinct}
 use Rattle.model.specs.Case.{Case}

@@ -5,7 +5,7 @@ use Rattle.std.proofs.lemmas.Bool.{cases_lt, cond-true, cond-false, eqb-true, eq
 use Rattle.std.proofs.lemmas.List.Quantifiers.{position-Some}
 use Rattle.std.proofs.lemmas.List.Sums.{fails_before_first}
 use Rattle.std.proofs.lemmas.Option.{get_or_from_slice_get, slice_get-get_or}
-use Rattle.formulas.proofs.Members.{some_not_none, nth_within, nth_there}
+use Rattle.lists.proofs.Members.{some_not_none, nth_within, nth_there}
 
 -- where `formula` gives the number of the formula that a member is of
 module _ {X : Type 0} (formula : X → ℕ) (xs : List X) (f : ℕ) where

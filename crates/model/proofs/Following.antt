@@ -3,14 +3,14 @@ use Rattle.std.proofs.Common.{◌≡◌, ℕ, ◌<◌, true, [], ◌∷◌, ◌+
 use mathlib.Core.Logic.{∥∥₁_map, ∥∥₁_map₂}
 use Rattle.std.specs.List.{slice_get}
 use Rattle.std.specs.Option.{option_map}
-use Rattle.std.proofs.lemmas.Bool.{cond_both, ltb-true, eqb-true}
+use Rattle.std.proofs.lemmas.Bool.{and_parts, cond_both, ltb-true, eqb-true}
 use Rattle.logic.specs.Run.{Run}
 use Rattle.logic.specs.Truth.{Throughout}
 use Rattle.calculus.specs.declared.verdict.Verdict.{Verdict}
 use Rattle.calculus.specs.declared.verdict.Verdict.TheVariants.{Admitted}
 use Rattle.calculus.specs.Pages.{Given, Page}
 use Rattle.formulas.specs.Forming.{numbered}
-use Rattle.formulas.proofs.Members.{nth_there, every_push}
+use Rattle.lists.proofs.Members.{nth_there, every_push}
 use Rattle.model.specs.declared.line.Line.{Line}
 use Rattle.model.specs.Case.{Case}
 use Rattle.model.specs.Breaking.{Keeps, Follows, LinesFollow}
@@ -19,7 +19,7 @@ use Rattle.model.specs.Limits.{AssumptionsEntered}
 use Rattle.model.proofs.Describing.{numbered_is}
 use Rattle.model.proofs.Judged.{entered_number}
 use Rattle.model.proofs.AssumptionLines.{assumption_admitted}
-use Rattle.model.proofs.LineChanges.{Allowed, line_allowed}
+use Rattle.model.proofs.LineGoes.{Allowed, line_allowed}
 
 module _ (c : Case) where
   -- the premise at a place holds on each run that keeps the assumptions
@@ -66,12 +66,15 @@ module _ (c : Case) where
 
     -- so does that of a line that can be held, where the formulas of the lines before it follow
     module _ (can : Allowed c page l) where
+      abbrev held : (place_held c l.first ≡ true) × (place_held c l.second ≡ true)
+      held = and_parts (place_held c l.first) (place_held c l.second) can.placed
+
       pub allowed_follows : LineByLine → Follows c.formulas c.assumptions l.formula
-      allowed_follows each = admitted_follows can.entered can.admitted (premise_follows each l.first can.first) (premise_follows each l.second can.second)
+      allowed_follows each = admitted_follows can.entered can.admitted (premise_follows each l.first held.0) (premise_follows each l.second held.1)
 
       pub allowed_follows_merely : LinesFollow c.formulas c.assumptions c.lines → ∥ Follows c.formulas c.assumptions l.formula ∥₁
       allowed_follows_merely each =
-          ∥∥₁_map₂ (premise_follows_merely each l.first can.first) (premise_follows_merely each l.second can.second)
+          ∥∥₁_map₂ (premise_follows_merely each l.first held.0) (premise_follows_merely each l.second held.1)
           (admitted_follows can.entered can.admitted)
 
       -- and with it the formulas of all lines do

@@ -4,33 +4,34 @@ use Rattle.std.specs.List.{slice_get}
 use Rattle.logic.specs.Formula.{Formula}
 use Rattle.logic.specs.Run.{Run}
 use Rattle.logic.specs.Truth.{Throughout}
-use Rattle.formulas.proofs.Members.{some_same}
+use Rattle.lists.proofs.Members.{some_same}
 use Rattle.model.specs.declared.line.Line.{Line}
+use Rattle.model.specs.Case.{Case}
 use Rattle.model.specs.Breaking.{Keeps, Follows}
-use Rattle.model.specs.History.{Stage, open_stage, sealed_stage, Call, History, then, then_seal, after_call, after, HeldLine, line_last, line_earlier}
+use Rattle.model.specs.Limits.{AssumptionsEntered}
+use Rattle.model.specs.History.{Stage, open_stage, sealed_stage, Call, line, History, then, then_seal, after_call, after, HeldLine, line_last, line_earlier}
 use Rattle.model.specs.Promises.{HeldLinesTrue, NeverBoth, KeepsAssumptions}
 use Rattle.model.proofs.Following.{held_follows}
 use Rattle.model.proofs.Kept.{follows_kept}
-use Rattle.model.proofs.LineChanges.{line_forms_nothing, line_assumes_nothing}
-use Rattle.model.proofs.Histories.{call_keeps_formulas, formed_there, assumptions_from, formulas_from, limits_kept}
+use Rattle.model.proofs.Histories.{call_keeps_formulas, sealed_assumes_nothing, formed_there, assumptions_from, formulas_from, limits_kept}
 use Rattle.model.proofs.HeldLines.{no_line_open, lines_from, line_there}
-use Rattle.model.proofs.HeldRefutations.{sealed_assumes_nothing, refutations_have_runs}
+use Rattle.model.proofs.HeldRefutations.{refutations_have_runs}
 
 -- the formula of a held line follows
 abbrev LineFollows : (s : Stage) → History s → Type 0
 LineFollows s h = (n : ℕ) (l : Line) → HeldLine s h n l → Follows (after h).formulas (after h).assumptions l.formula
 
--- so it does behind one more call
+-- what follows goes on following in every call on a sealed case
+follows_after : (c : Case) (x : Call sealed_stage) → AssumptionsEntered c.formulas c.assumptions → (f : ℕ) → Follows c.formulas c.assumptions f
+    → Follows (after_call c x).formulas (after_call c x).assumptions f
+follows_after c x entered f w = rw (sealed_assumes_nothing c x) (follows_kept c.formulas (after_call c x).formulas c.assumptions (call_keeps_formulas sealed_stage c x) entered f w)
+
+-- so it does after one more call
 one_call : (h : History sealed_stage) (x : Call sealed_stage) → LineFollows sealed_stage h → LineFollows sealed_stage (then h x)
 one_call h x before n l (line_last {page = page} is) =
-    rw (line_forms_nothing (after h) page l, line_assumes_nothing (after h) page l)
-    (held_follows (after h) (limits_kept sealed_stage h).assumptions_entered page l n is
-    (λ m k there. before m k (lines_from sealed_stage h m k there)))
-one_call h x before n l (line_earlier held) =
-    let c = after h in
-    rw (sealed_assumes_nothing c x)
-    (follows_kept c.formulas (after_call c x).formulas c.assumptions (call_keeps_formulas sealed_stage c x) (limits_kept sealed_stage h).assumptions_entered l.formula
-    (before n l held))
+    let entered = (limits_kept sealed_stage h).assumptions_entered in
+    follows_after (after h) (line page l) entered l.formula (held_follows (after h) entered page l n is (λ m k there. before m k (lines_from sealed_stage h m k there)))
+one_call h x before n l (line_earlier held) = follows_after (after h) x (limits_kept sealed_stage h).assumptions_entered l.formula (before n l held)
 
 pub lines_follow : (s : Stage) (h : History s) → LineFollows s h
 lines_follow open_stage h n l held = absurd (no_line_open h n l (line_there open_stage h n l held))

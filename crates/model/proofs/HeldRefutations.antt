@@ -1,109 +1,82 @@
 -- What every history keeps of refutations.
-use Rattle.std.proofs.Common.{◌≡◌, ℕ, List, Some, None, Option, sym, refl, ap, ◌∙◌, subst, inl, inr}
+use Rattle.std.proofs.Common.{◌≡◌, ℕ, List, Some, sym, ◌∙◌, subst, inl, inr}
 use Rattle.std.specs.List.{slice_get}
-use Rattle.std.specs.Option.{ok_or}
 use Rattle.refusals.specs.declared.Refusal.TheVariants.{RefutationNotHeld}
 use Rattle.logic.specs.Formula.{Formula}
 use Rattle.logic.specs.Run.{Run}
 use Rattle.logic.specs.Truth.{Holds}
-use Rattle.formulas.proofs.Members.{some_same, some_not_none}
+use Rattle.lists.proofs.Members.{some_same, some_not_none}
+use Rattle.lists.proofs.Growing.{grown_keeps, grown_brings, grown_same}
 use Rattle.model.specs.declared.refutation.Refutation.{Refutation}
 use Rattle.model.specs.Case.{Case}
 use Rattle.model.specs.Breaking.{Breaks}
-use Rattle.model.specs.History.{Stage, open_stage, sealed_stage, Call, form, assume, truth, line, refute, History, new, then, then_seal, after_call, after, HeldRefutation, refutation_last, refutation_earlier}
+use Rattle.model.specs.Limits.{AssumptionsEntered}
+use Rattle.model.specs.History.{Stage, open_stage, sealed_stage, Call, form, refute, History, new, then, then_seal, after_call, after, HeldRefutation, refutation_last, refutation_earlier}
 use Rattle.model.specs.Promises.{RefutationsHeld, RefutationsHaveRuns}
-use Rattle.model.proofs.Exact.{form_exact, assume_exact}
-use Rattle.model.proofs.Forming.{form_refutes_nothing, form_assumes_nothing}
-use Rattle.model.proofs.Assuming.{assume_refutes_nothing}
-use Rattle.model.proofs.Reading.{read_there, read_none}
+use Rattle.model.proofs.Changes.{Answered, BringsRefutation, changes}
+use Rattle.model.proofs.Reading.{Exactly, reads, reads_none}
 use Rattle.model.proofs.Kept.{breaks_kept}
-use Rattle.model.proofs.LineChanges.{line_assumes_nothing, line_refutes_nothing}
-use Rattle.model.proofs.RefuteChanges.{truth_changes_nothing, refute_forms_nothing, refute_assumes_nothing, refute_brings, refute_keeps, refute_gives, refute_breaks}
-use Rattle.model.proofs.Histories.{call_keeps_formulas, formulas_from, formed_there, assumed_there, limits_kept}
+use Rattle.model.proofs.Refuted.{refute_gives, refute_breaks}
+use Rattle.model.proofs.Histories.{call_keeps_formulas, sealed_assumes_nothing, formulas_from, formed_there, assumed_there, limits_kept}
 
--- n is the number of a refutation of f at i
-abbrev There : List Refutation → ℕ → ℕ → ℕ → Type 0
-There xs n f i = slice_get xs n ≡ Some (record { formula = f; position = i })
+-- a refutation of f at i
+abbrev at : ℕ → ℕ → Refutation
+at f i = record { formula = f; position = i }
 
--- an open case has none
-no_refutation_open : (h : History open_stage) (n : ℕ) (x : Refutation) → slice_get (after h).refutations n ≡ Some x → ⊥
-no_refutation_open new n x is = some_not_none (sym is)
-no_refutation_open (then h (form kind left right)) n x is =
-    no_refutation_open h n x (subst (λ (xs : List Refutation). slice_get xs n ≡ Some x) (form_refutes_nothing (after h) kind left right (form_exact (after h) kind left right)) is)
-no_refutation_open (then h (assume f)) n x is =
-    no_refutation_open h n x (subst (λ (xs : List Refutation). slice_get xs n ≡ Some x) (assume_refutes_nothing (after h) f (assume_exact (after h) f)) is)
-no_refutation_open (then h (truth r f i m)) n x is =
-    no_refutation_open h n x (subst (λ (d : Case). slice_get d.refutations n ≡ Some x) (truth_changes_nothing (after h) r f i m) is)
+-- a refutation is held by a number, with some run
+abbrev HeldSome : (s : Stage) → History s → ℕ → Refutation → Type 0
+HeldSome s h n y = (r : Run) × HeldRefutation s h n y.formula y.position r
 
-pub held_from : (s : Stage) (h : History s) (n f i : ℕ) → There (after h).refutations n f i → (r : Run) × HeldRefutation s h n f i r
-held_from s new n f i is = absurd (some_not_none (sym is))
-held_from s (then h (form kind left right)) n f i is =
-    let p = held_from s h n f i (subst (λ (xs : List Refutation). There xs n f i) (form_refutes_nothing (after h) kind left right (form_exact (after h) kind left right)) is) in
-    (p.0, refutation_earlier p.1)
-held_from s (then h (assume g)) n f i is = absurd (no_refutation_open (then h (assume g)) n _ is)
-held_from s (then h (truth r g j m)) n f i is =
-    let p = held_from s h n f i (subst (λ (d : Case). There d.refutations n f i) (truth_changes_nothing (after h) r g j m) is) in
-    (p.0, refutation_earlier p.1)
-held_from s (then h (line page l)) n f i is =
-    let p = held_from s h n f i (subst (λ (xs : List Refutation). There xs n f i) (line_refutes_nothing (after h) page l) is) in
-    (p.0, refutation_earlier p.1)
-held_from s (then h (refute r g j m)) n f i is = elim (refute_brings (after h) r g j m n (record { formula = f; position = i }) is) [
-  | inl old ↦ let p = held_from s h n f i old in (p.0, refutation_earlier p.1)
-  | inr here ↦
-      let same_formula : g ≡ f = ap (λ (x : Refutation). x.formula) here.1 in
-      let same_position : j ≡ i = ap (λ (x : Refutation). x.position) here.1 in
-      (r, rw (← same_formula, ← same_position) (refutation_last here.0))
+-- no call on an open case holds one
+none_brought : (c : Case) (x : Call open_stage) (y : Refutation) → BringsRefutation c x y → ⊥
+none_brought c (form kind left right) y brought = brought
+none_brought c x y brought = brought
+
+no_refutation_open : (h : History open_stage) (n : ℕ) (y : Refutation) → slice_get (after h).refutations n ≡ Some y → ⊥
+no_refutation_open new n y is = some_not_none (sym is)
+no_refutation_open (then h x) n y is =
+    no_refutation_open h n y (subst (λ (ys : List Refutation). slice_get ys n ≡ Some y) (grown_same (changes (after h) x).refutations (λ m z b. none_brought (after h) x z b.1)) is)
+
+held_now : {s : Stage} (h : History s) (x : Call s) (n : ℕ) (y : Refutation) → Answered (after h) x n → BringsRefutation (after h) x y → HeldSome s (then h x) n y
+held_now h (refute r f i words) n y is brought = rw (← brought.0) (r, refutation_last is)
+held_now h x n y is brought = absurd brought
+
+held_from : (s : Stage) (h : History s) (n : ℕ) (y : Refutation) → slice_get (after h).refutations n ≡ Some y → HeldSome s h n y
+held_from s new n y is = absurd (some_not_none (sym is))
+held_from s (then h x) n y is = elim (grown_brings (changes (after h) x).refutations n y is) [
+  | inl old ↦ let p = held_from s h n y old in (p.0, refutation_earlier p.1)
+  | inr now ↦ held_now h x n y now.1.0 now.1.1
 ]
-held_from s (then_seal h) n f i is = absurd (no_refutation_open h n _ is)
+held_from s (then_seal h) n y is = absurd (no_refutation_open h n y is)
 
-call_keeps_refutations : (s : Stage) (c : Case) (x : Call s) (n : ℕ) (y : Refutation) → slice_get c.refutations n ≡ Some y → slice_get (after_call c x).refutations n ≡ Some y
-call_keeps_refutations s c (form kind left right) n y is = subst (λ (xs : List Refutation). slice_get xs n ≡ Some y) (sym (form_refutes_nothing c kind left right (form_exact c kind left right))) is
-call_keeps_refutations s c (assume f) n y is = subst (λ (xs : List Refutation). slice_get xs n ≡ Some y) (sym (assume_refutes_nothing c f (assume_exact c f))) is
-call_keeps_refutations s c (truth r f i m) n y is = subst (λ (d : Case). slice_get d.refutations n ≡ Some y) (sym (truth_changes_nothing c r f i m)) is
-call_keeps_refutations s c (line page l) n y is = subst (λ (xs : List Refutation). slice_get xs n ≡ Some y) (sym (line_refutes_nothing c page l)) is
-call_keeps_refutations s c (refute r f i m) n y is = refute_keeps c r f i m n y is
-
-pub held_there : (s : Stage) (h : History s) (n f i : ℕ) (r : Run) → HeldRefutation s h n f i r → There (after h).refutations n f i
+pub held_there : (s : Stage) (h : History s) (n f i : ℕ) (r : Run) → HeldRefutation s h n f i r → slice_get (after h).refutations n ≡ Some (at f i)
 held_there s h n f i r (refutation_last {h = before} {words = words} is) = refute_gives (after before) r f i words n is
-held_there s h n f i r (refutation_earlier {h = before} {x = x} p) = call_keeps_refutations s (after before) x n _ (held_there s before n f i r p)
+held_there s h n f i r (refutation_earlier {h = before} {x = x} p) = grown_keeps (changes (after before) x).refutations n (at f i) (held_there s before n f i r p)
 
--- where no refute call answered the number, nothing is there
-none_held : (s : Stage) (h : History s) (n : ℕ) → ((f i : ℕ) (r : Run) → HeldRefutation s h n f i r → ⊥) → slice_get (after h).refutations n ≡ None
-none_held s h n none = by (slice_get (after h).refutations n) refl
-  where
-    by : (o : Option Refutation) → slice_get (after h).refutations n ≡ o → o ≡ None
-    by (Some y) is = absurd (let p = held_from s h n y.formula y.position is in none y.formula y.position p.0 p.1)
-    by None is = refl
+pub refutations_exactly : (s : Stage) (h : History s) → Exactly (after h).refutations (HeldSome s h)
+refutations_exactly s h = record { from = held_from s h; there = λ n y p. held_there s h n y.formula y.position p.0 p.1 }
 
 pub refutations_held : RefutationsHeld
-refutations_held s h n = (
-  λ f i. (
-    λ is. held_from s h n f i (read_there RefutationNotHeld (slice_get (after h).refutations n) _ is),
-    λ p. ap (λ o. ok_or o RefutationNotHeld) (held_there s h n f i p.0 p.1),
-  ),
-  (
-    λ is f i r held. some_not_none (sym (held_there s h n f i r held) ∙ (read_none RefutationNotHeld (slice_get (after h).refutations n)).0 is),
-    λ none. (read_none RefutationNotHeld (slice_get (after h).refutations n)).1 (none_held s h n none),
-  ),
-)
+refutations_held s h n =
+    let none = reads_none (refutations_exactly s h) n RefutationNotHeld in (
+      λ f i. reads (refutations_exactly s h) n RefutationNotHeld (at f i),
+      (λ is f i r held. none.0 is (at f i) (r, held), λ none_held. none.1 (λ y p. none_held y.formula y.position p.0 p.1)),
+    )
 
--- at the sealed stage no call changes the assumptions, so that a run that keeps them goes on keeping them
-pub sealed_assumes_nothing : (c : Case) (x : Call sealed_stage) → (after_call c x).assumptions ≡ c.assumptions
-sealed_assumes_nothing c (form kind left right) = form_assumes_nothing c kind left right (form_exact c kind left right)
-sealed_assumes_nothing c (truth r f i n) = ap (λ (d : Case). d.assumptions) (truth_changes_nothing c r f i n)
-sealed_assumes_nothing c (line page l) = line_assumes_nothing c page l
-sealed_assumes_nothing c (refute r f i n) = refute_assumes_nothing c r f i n
+-- a run goes on breaking a formula in every call on a sealed case
+breaks_after : (c : Case) (x : Call sealed_stage) → AssumptionsEntered c.formulas c.assumptions → (r : Run) (f i : ℕ)
+    → Breaks c.formulas c.assumptions r f i → Breaks (after_call c x).formulas (after_call c x).assumptions r f i
+breaks_after c x entered r f i b =
+    rw (sealed_assumes_nothing c x) (breaks_kept c.formulas (after_call c x).formulas c.assumptions (call_keeps_formulas sealed_stage c x) entered r f i b)
 
 -- the run of a held refutation breaks its formula
 pub refutation_breaks : (s : Stage) (h : History s) (n f i : ℕ) (r : Run) → HeldRefutation s h n f i r → Breaks (after h).formulas (after h).assumptions r f i
-refutation_breaks open_stage h n f i r p = absurd (no_refutation_open h n _ (held_there open_stage h n f i r p))
+refutation_breaks open_stage h n f i r p = absurd (no_refutation_open h n (at f i) (held_there open_stage h n f i r p))
 refutation_breaks sealed_stage h n f i r (refutation_last {h = before} {words = words} is) =
-    rw (refute_forms_nothing (after before) r f i words, refute_assumes_nothing (after before) r f i words) (refute_breaks (after before) r f i words n (limits_kept sealed_stage before).assumptions_entered is)
+    let entered = (limits_kept sealed_stage before).assumptions_entered in
+    breaks_after (after before) (refute r f i words) entered r f i (refute_breaks (after before) r f i words n is entered)
 refutation_breaks sealed_stage h n f i r (refutation_earlier {h = before} {x = x} p) =
-    let c = after before in
-    rw (sealed_assumes_nothing c x)
-    (breaks_kept c.formulas (after_call c x).formulas c.assumptions (call_keeps_formulas sealed_stage c x) (limits_kept sealed_stage before).assumptions_entered r f i
-    (refutation_breaks sealed_stage before n f i r p))
+    breaks_after (after before) x (limits_kept sealed_stage before).assumptions_entered r f i (refutation_breaks sealed_stage before n f i r p)
 
 pub refutations_have_runs : RefutationsHaveRuns
 refutations_have_runs s h n f i r held =

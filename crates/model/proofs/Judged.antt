@@ -1,5 +1,5 @@
 -- truth and refute do what their relations say.
-use Rattle.std.proofs.Common.{◌≡◌, ℕ, ◌+◌, ◌*◌, ◌<◌, Bool, true, false, cond, ltb, leb, List, length, Some, None, Ok, Err, Option, Result, sym, refl, ◌∙◌, subst, inl, inr, arith}
+use Rattle.std.proofs.Common.{◌≡◌, ℕ, ◌+◌, ◌*◌, ◌<◌, ◌≤◌, Bool, true, false, if◌then◌else◌, List, length, Some, None, Ok, Err, Option, Result, sym, refl, ◌∙◌, subst, inl, inr, arith}
 use mathlib.Core.Bool.{false≢true}
 use lib.Dec
 use Rattle.std.specs.List.{slice_get}
@@ -12,13 +12,13 @@ use Rattle.logic.specs.Run.{Run}
 use Rattle.logic.specs.Truth.{Holds, Throughout}
 use Rattle.logic.proofs.Decided.{decides, throughout, fails}
 use Rattle.formulas.specs.Forming.{numbered}
-use Rattle.formulas.proofs.Members.{nth_within}
+use Rattle.lists.proofs.Members.{nth_within}
 use Rattle.truths.specs.Along.{with_rows}
 use Rattle.truths.proofs.Along.{row_along, row_behind}
 use Rattle.truths.specs.Searching.{first_failing}
 use Rattle.truths.proofs.Failing.{failing, none_failing}
 use Rattle.model.specs.Case.{Case}
-use Rattle.model.specs.Calls.{unchanged}
+use Rattle.model.specs.Calls.{Outcome, unchanged}
 use Rattle.model.specs.Judging.{check, once_checked, words_once_checked, true_at, truth, truth_scratch, judged_by, judge, held_by, with_room, words_with_room, refute, refute_scratch}
 use Rattle.model.specs.Describes.{Number}
 use Rattle.model.specs.Limits.{AssumptionsEntered}
@@ -39,18 +39,15 @@ module _ (c : Case) (r : Run) (f i : ℕ) where
 
   pub checked : (words : ℕ) → Checked words (check c r f i words)
   checked words =
-      cond_both (Dec.ltb f (length c.formulas)) _ (Err NotEntered) (Checked words)
-      (λ known. let entered = ltb-true f (length c.formulas) known in
-      cond_both (Dec.leb (r.stem + r.loop) 256) _ (Err RunTooLong) (Checked words)
-      (λ fits. let short = leb-true (r.stem + r.loop) 256 fits in
-      cond_both (Dec.ltb i (r.stem + r.loop)) _ (Err PastRun) (Checked words)
-      (λ inside. let within = ltb-true i (r.stem + r.loop) inside in
-      cond_both (Dec.leb (4 * length c.formulas) words) (Ok tt) (Err ScratchTooShort) (Checked words)
-      (λ enough. record { entered = entered; short = short; within = within; room = leb-true (4 * length c.formulas) words enough })
-      (λ few. scratch_too_short entered short within (leb-false (4 * length c.formulas) words few)))
-      (λ past. past_run entered short (ltb-false i (r.stem + r.loop) past)))
-      (λ long. run_too_long entered (leb-false (r.stem + r.loop) 256 long)))
-      (λ past. formula_unknown (ltb-false f (length c.formulas) past))
+      cond_both (Dec.leb (length c.formulas) f) _ _ (Checked words) (λ t. formula_unknown (leb-true (length c.formulas) f t)) (λ e.
+      let entered = leb-false (length c.formulas) f e in
+      cond_both (Dec.ltb 256 (r.stem + r.loop)) _ _ (Checked words) (λ t. run_too_long entered (ltb-true 256 (r.stem + r.loop) t)) (λ g.
+      let short = ltb-false 256 (r.stem + r.loop) g in
+      cond_both (Dec.leb (r.stem + r.loop) i) _ _ (Checked words) (λ t. past_run entered short (leb-true (r.stem + r.loop) i t)) (λ h.
+      let within = leb-false (r.stem + r.loop) i h in
+      cond_both (Dec.ltb words (4 * length c.formulas)) (Err ScratchTooShort) (Ok tt) (Checked words)
+      (λ t. scratch_too_short entered short within (ltb-true words (4 * length c.formulas) t))
+      (λ k. record { entered = entered; short = short; within = within; room = ltb-false words (4 * length c.formulas) k }))))
 
   module _ (words : List ℕ) where
     telling : Judgeable c r f i (length words) → (b : Bool) → true_at c r f i ≡ b
@@ -66,6 +63,29 @@ module _ (c : Case) (r : Run) (f i : ℕ) where
 pub truth_exact : TruthExact
 unfolding truth truth_scratch
 truth_exact c r f i words = truth_by c r f i words (check c r f i (length words)) (checked c r f i (length words))
+
+module _ (c : Case) (r : Run) (f i n : ℕ) where
+  -- refute by its checks in their order, and what it leaves of the scratch words: a check refuses it, 64 refutations are held, or it is judged
+  pub data RefuteGoes : Outcome ℕ → (List ℕ → List ℕ) → Type 0 where
+    unjudged : (e : Refusal) → Unjudgeable c r f i n e → RefuteGoes (unchanged c (Err e)) (λ words. words)
+    full : Judgeable c r f i n → 64 ≤ length c.refutations → RefuteGoes (unchanged c (Err RefutationsFull)) (λ words. words)
+    judged : Judgeable c r f i n → length c.refutations < 64 → (v : Result (Unit {0}) Refusal) → judge c r f i ≡ v → RefuteGoes (held_by c f i v) (with_rows r c.formulas)
+
+  abbrev Goes : Result (Unit {0}) Refusal → Type 0
+  Goes k = RefuteGoes (once_checked c k (with_room c r f i)) (λ words. words_once_checked words k (words_with_room c r words))
+
+  by_room : Judgeable c r f i n → (b : Bool) → Dec.leb 64 (length c.refutations) ≡ b
+      → RefuteGoes (if b then unchanged c (Err RefutationsFull) else held_by c f i (judge c r f i)) (λ words. if b then words else with_rows r c.formulas words)
+  by_room can true most = full can (leb-true 64 (length c.refutations) most)
+  by_room can false few = judged can (leb-false 64 (length c.refutations) few) (judge c r f i) refl
+
+  by_check : (k : Result (Unit {0}) Refusal) → Checked c r f i n k → Goes k
+  by_check (Ok done) can = by_room can (Dec.leb 64 (length c.refutations)) refl
+  by_check (Err e) cannot = unjudged e cannot
+
+  pub refute_goes : RefuteGoes (refute c r f i n) (λ words. words_once_checked words (check c r f i n) (words_with_room c r words))
+  unfolding refute
+  refute_goes = by_check (check c r f i n) (checked c r f i n)
 
 module _ (c : Case) (entered : AssumptionsEntered c.formulas c.assumptions) (r : Run) where
   -- what the assumption at a place says, by its number and by its formula
@@ -100,33 +120,25 @@ module _ (c : Case) (entered : AssumptionsEntered c.formulas c.assumptions) (r :
     fails = fails r (numbered c.formulas f) i is;
   }
 
-  module _ (f i : ℕ) (words : List ℕ) (judgeable : Judgeable c r f i (length words)) where
-    abbrev Refuted : Result (Unit {0}) Refusal → Type 0
-    Refuted v = Refuting c r f i words (held_by c f i v) (with_rows r c.formulas words)
+  module _ (f i : ℕ) (words : List ℕ) where
+    by_verdict : Judgeable c r f i (length words) → length c.refutations < 64 → (o : Option (ℕ × ℕ)) → first_failing (true_at c r) (r.stem + r.loop) 0 c.assumptions ≡ o
+        → Refuting c r f i words (held_by c f i (judged_by o (true_at c r f i))) (with_rows r c.formulas words)
+    by_verdict can room (Some x) is = assumption_fails can room x.0 x.1 (first_failure x.0 x.1 is)
+    by_verdict can room None is =
+        cond_both (true_at c r f i) (Err FormulaTrue) (Ok tt) (λ v. Refuting c r f i words (held_by c f i v) (with_rows r c.formulas words))
+        (λ true_there. formula_holds can room (keeps is) (numbered c.formulas f) (entered_number c.formulas f can.entered) ((decides r (numbered c.formulas f) i).0 true_there))
+        (λ false_there. newly_held can room (breaking f i can.entered is false_there))
 
-    by_verdict : length c.refutations < 64 → (o : Option (ℕ × ℕ)) → first_failing (true_at c r) (r.stem + r.loop) 0 c.assumptions ≡ o
-        → Refuted (judged_by o (true_at c r f i))
-    by_verdict room (Some x) is = assumption_fails judgeable room x.0 x.1 (first_failure x.0 x.1 is)
-    by_verdict room None is =
-        cond_both (true_at c r f i) (Err FormulaTrue) (Ok tt) Refuted
-        (λ true_there. formula_holds judgeable room (keeps is) (numbered c.formulas f) (entered_number c.formulas f judgeable.entered) ((decides r (numbered c.formulas f) i).0 true_there))
-        (λ false_there. newly_held judgeable room (breaking f i judgeable.entered is false_there))
-
-    by_room : (b : Bool) → Dec.ltb (length c.refutations) 64 ≡ b
-        → Refuting c r f i words (cond b (held_by c f i (judge c r f i)) (unchanged c (Err RefutationsFull))) (cond b (with_rows r c.formulas words) words)
-    by_room true room = by_verdict (ltb-true (length c.refutations) 64 room) (first_failing (true_at c r) (r.stem + r.loop) 0 c.assumptions) refl
-    by_room false full = refutations_full judgeable (ltb-false (length c.refutations) 64 full)
-
-  refute_by : (f i : ℕ) (words : List ℕ) (k : Result (Unit {0}) Refusal) → Checked c r f i (length words) k
-      → Refuting c r f i words
-      (once_checked c k (with_room c r f i))
-      (words_once_checked words k (words_with_room c r words))
-  refute_by f i words (Ok done) judgeable = by_room f i words judgeable (Dec.ltb (length c.refutations) 64) refl
-  refute_by f i words (Err e) unjudgeable = not_judged e unjudgeable
+    by_goes : {o : Outcome ℕ} {left : List ℕ → List ℕ} → RefuteGoes c r f i (length words) o left → Refuting c r f i words o (left words)
+    by_goes (unjudged e cannot) = not_judged e cannot
+    by_goes (full can most) = refutations_full can most
+    by_goes (judged can room v is) =
+        subst (λ u. Refuting c r f i words (held_by c f i u) (with_rows r c.formulas words)) is
+        (by_verdict can room (first_failing (true_at c r) (r.stem + r.loop) 0 c.assumptions) refl)
 
 pub refute_exact : RefuteExact
-unfolding refute refute_scratch
-refute_exact c entered r f i words = refute_by c entered r f i words (check c r f i (length words)) (checked c r f i (length words))
+unfolding refute_scratch
+refute_exact c entered r f i words = by_goes c entered r f i words (refute_goes c r f i (length words))
 
 pub rows_tell : RowsTell
 rows_tell r fs words f i A short is =

@@ -4,7 +4,7 @@ use mathlib.Core.Logic.{∥∥₁_map}
 use Rattle.std.specs.List.{slice_get}
 use Rattle.logic.specs.Formula.{Formula}
 use Rattle.logic.specs.Run.{Run}
-use Rattle.formulas.proofs.Members.{some_same, nth_there}
+use Rattle.lists.proofs.Members.{some_same, nth_there}
 use Rattle.model.specs.Describes.{Number}
 use Rattle.model.specs.declared.line.Line.{Line}
 use Rattle.model.specs.declared.refutation.Refutation.{Refutation}

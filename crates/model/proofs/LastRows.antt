@@ -6,21 +6,18 @@ use Rattle.refusals.specs.declared.Refusal.{Refusal}
 use Rattle.logic.specs.Formula.{Formula}
 use Rattle.logic.specs.Run.{Run}
 use Rattle.calculus.specs.Pages.{Page}
-use Rattle.formulas.proofs.Added.{form_longer}
+use Rattle.lists.proofs.Growing.{grown_longer}
 use Rattle.truths.specs.Along.{with_rows}
 use Rattle.truths.proofs.Along.{rows_over}
 use Rattle.model.specs.declared.line.Line.{Line}
 use Rattle.model.specs.Case.{Case}
-use Rattle.model.specs.Calls as calls
-use Rattle.model.specs.Judging.{check, words_once_checked, words_with_room, refute_scratch}
+use Rattle.model.specs.Calls.{Outcome}
+use Rattle.model.specs.Judging.{refute_scratch}
 use Rattle.model.specs.Outcomes.{Judgeable, Unjudgeable, formula_unknown, run_too_long, past_run, scratch_too_short}
 use Rattle.model.specs.History.{Stage, sealed_stage, Call, form, assume, truth, line, refute, after_call, Refused}
 use Rattle.model.specs.LastRows.{WritesRows, truth_writes, refute_writes, LastRows, no_call, refused_writing, refused_unwritten, answered_before, answered_writing, answered_unwritten, with_last}
-use Rattle.model.proofs.Exact.{assume_exact}
-use Rattle.model.proofs.Assuming.{assume_forms_nothing}
-use Rattle.model.proofs.Judged.{Checked, checked}
-use Rattle.model.proofs.LineChanges.{line_forms_nothing}
-use Rattle.model.proofs.RefuteChanges.{truth_changes_nothing, refute_forms_nothing}
+use Rattle.model.proofs.Judged.{RefuteGoes, unjudged, full, judged, refute_goes}
+use Rattle.model.proofs.Changes.{changes}
 
 -- ---- what one call leaves
 
@@ -58,28 +55,20 @@ module _ (c : Case) (r : Run) (f i : ℕ) where
     abbrev RefuteLeaves : List ℕ → Type 0
     RefuteLeaves = Leaves sealed_stage c (refute r f i (length words)) words
 
-    by_room : Judgeable c r f i (length words) → (b : Bool) → Dec.ltb (length c.refutations) 64 ≡ b → RefuteLeaves (cond b (with_rows r c.formulas words) words)
-    by_room judgeable true room = leaves_rows (refute_writes judgeable (ltb-true (length c.refutations) 64 room))
-    by_room judgeable false full = leaves_all (λ q w. omega (arith, ltb-false (length c.refutations) 64 full, (writable w).1))
-
-    by_check : (k : Result (Unit {0}) Refusal) → Checked c r f i (length words) k → RefuteLeaves (words_once_checked words k (words_with_room c r words))
-    by_check (Ok done) judgeable = by_room judgeable (Dec.ltb (length c.refutations) 64) refl
-    by_check (Err e) unjudgeable = leaves_all (λ q w. not_both (writable w).0 unjudgeable)
+    by_goes : {o : Outcome ℕ} {left : List ℕ → List ℕ} → RefuteGoes c r f i (length words) o left → RefuteLeaves (left words)
+    by_goes (unjudged e cannot) = leaves_all (λ q w. not_both (writable w).0 cannot)
+    by_goes (full can most) = leaves_all (λ q w. omega (arith, most, (writable w).1))
+    by_goes (judged can room v is) = leaves_rows (refute_writes can room)
 
     pub refute_leaves : RefuteLeaves (refute_scratch c r f i words)
     unfolding refute_scratch
-    refute_leaves = by_check (check c r f i (length words)) (checked c r f i (length words))
+    refute_leaves = by_goes (refute_goes c r f i (length words))
 
 -- ---- the calls behind it
 
 -- no call takes formulas away
 formulas_stay : {s : Stage} (c : Case) (x : Call s) → length c.formulas ≤ length (after_call c x).formulas
-unfolding calls.form
-formulas_stay c (form kind left right) = form_longer c.formulas kind left right
-formulas_stay c (assume f) = omega (arith, ap length (assume_forms_nothing c f (assume_exact c f)))
-formulas_stay c (truth r f i n) = omega (arith, ap (λ (d : Case). length d.formulas) (truth_changes_nothing c r f i n))
-formulas_stay c (line page l) = omega (arith, ap length (line_forms_nothing c page l))
-formulas_stay c (refute r f i n) = omega (arith, ap length (refute_forms_nothing c r f i n))
+formulas_stay c x = grown_longer (changes c x).formulas
 
 -- the last rows are those of all formulas that there were before, at least
 abbrev Covers : Case → Option (Run × List Formula) → Type 0

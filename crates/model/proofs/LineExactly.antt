@@ -10,7 +10,7 @@ use Rattle.calculus.specs.Pages.{Verdicts, Page}
 use Rattle.calculus.specs.Published.{published}
 use Rattle.calculus.proofs.Exact.{published_exact}
 use Rattle.formulas.specs.Forming.{numbered}
-use Rattle.formulas.proofs.Members.{nth_within}
+use Rattle.lists.proofs.Members.{nth_within}
 use Rattle.model.specs.declared.line.Line.{Line}
 use Rattle.model.specs.Case.{Case}
 use Rattle.model.specs.Lines.{place_held, premise, assumption_verdict, line_verdict, line}
@@ -19,8 +19,7 @@ use Rattle.model.specs.Outcomes.{Premise, no_premise, on_line, Stated, StatesAss
 use Rattle.model.specs.Promises.{CalculusGives, as_assumption, by_its_rule, LineHeldExactly}
 use Rattle.model.proofs.Describing.{numbered_is}
 use Rattle.model.proofs.AssumptionLines.{assumption_admitted, assumption_admits}
-use Rattle.model.proofs.LineChanges.{Allowed, line_allowed}
-use Rattle.model.proofs.LineComesTo.{line_judged_as}
+use Rattle.model.proofs.LineGoes.{Allowed, line_allowed, line_judged_as}
 use Rattle.model.proofs.Lining.{stated}
 
 -- the axioms and rules have the numbers 1 to 7
@@ -95,7 +94,7 @@ module _ (c : Case) where
 
     -- a line that can be held is stated
     pub allowed_stated : LinesEntered c.formulas c.lines → Allowed c page l → Stated c l
-    allowed_stated entered can = stated c entered page l can.entered (and_from (place_held c l.first) (place_held c l.second) can.first can.second)
+    allowed_stated entered can = stated c entered page l can.entered can.placed
 
     allowed_given : LinesEntered c.formulas c.lines → (l.rule ≢ 0 → page.verdict l.rule ≡ published l.rule) → Allowed c page l → CalculusGives c l
     allowed_given entered publishes can = admitted_given publishes (allowed_stated entered can) can.admitted

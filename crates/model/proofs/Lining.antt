@@ -1,21 +1,22 @@
 -- line does what its relation says.
-use Rattle.std.proofs.Common.{◌≡◌, ℕ, ◌<◌, ◌≤◌, true, false, ◌&&◌, eqb, length, Some, None, Err, Option, sym, refl, ◌∙◌, inl, inr}
+use Rattle.std.proofs.Common.{◌≡◌, ℕ, ◌<◌, ◌≤◌, true, false, ◌&&◌, eqb, length, Some, None, Err, Option, sym, refl, ◌∙◌, subst, inl, inr}
 use lib.Dec
 use Rattle.std.proofs.lemmas.Bool.{cond_both, ltb-true, ltb-false, eqb-true, eqb-false, and_parts, and_from, cases_Bool, true≢false}
-use Rattle.refusals.specs.declared.Refusal.TheVariants.{NotEntered, LineNotHeld, LinesFull}
+use Rattle.refusals.specs.declared.Refusal.TheVariants.{LineNotHeld}
 use Rattle.calculus.specs.declared.verdict.Verdict.{Verdict}
 use Rattle.calculus.specs.declared.verdict.Verdict.TheVariants.{Admitted, NotAdmitted, BeyondLimit}
 use Rattle.calculus.specs.Pages.{Page}
 use Rattle.formulas.specs.Forming.{numbered}
-use Rattle.formulas.proofs.Members.{nth_there}
+use Rattle.lists.proofs.Members.{nth_there}
 use Rattle.model.specs.declared.line.Line.{Line}
 use Rattle.model.specs.Case.{Case}
-use Rattle.model.specs.Calls.{unchanged}
-use Rattle.model.specs.Lines.{place_held, premise, assumption_verdict, line_verdict, line_by, line}
+use Rattle.model.specs.Calls.{Outcome, unchanged}
+use Rattle.model.specs.Lines.{place_held, premise, assumption_verdict, line_verdict, line_by}
 use Rattle.model.specs.Limits.{LinesEntered}
 use Rattle.model.specs.Outcomes.{Premise, no_premise, on_line, Stated, Lining, formula_not_entered, place_not_held, lines_full, assumption_line, no_assumption, page_admits, page_does_not_admit, page_beyond_limit}
 use Rattle.model.specs.Promises.{LineExact}
 use Rattle.model.proofs.Judged.{entered_number}
+use Rattle.model.proofs.LineGoes.{Placed, LineGoes, unknown, unplaced, full, judged, line_goes}
 use Rattle.model.proofs.AssumptionLines.{states, states_assumption, stated_tested}
 
 -- a place that is not held is a number that no line has
@@ -33,7 +34,7 @@ module _ (c : Case) (entered : LinesEntered c.formulas c.lines) where
 
   module _ (page : Page) (l : Line) where
     -- a line with an entered formula and held places is stated
-    pub stated : l.formula < length c.formulas → (place_held c l.first && place_held c l.second) ≡ true → Stated c l
+    pub stated : l.formula < length c.formulas → Placed c page l → Stated c l
     stated known placed =
         let p = and_parts (place_held c l.first) (place_held c l.second) placed in
         record {
@@ -45,8 +46,8 @@ module _ (c : Case) (entered : LinesEntered c.formulas c.lines) where
           second_is = premise_is l.second p.1;
         }
 
-    unplaced : l.formula < length c.formulas → (place_held c l.first && place_held c l.second) ≡ false → Lining c page l (unchanged c (Err LineNotHeld))
-    unplaced known not_placed = elim (cases_Bool (place_held c l.first)) [
+    place_missing : l.formula < length c.formulas → (place_held c l.first && place_held c l.second) ≡ false → Lining c page l (unchanged c (Err LineNotHeld))
+    place_missing known not_placed = elim (cases_Bool (place_held c l.first)) [
       | inr first ↦ let k = unheld c l.first first in place_not_held known k.0 (inl k.1) k.2
       | inl first ↦ elim (cases_Bool (place_held c l.second)) [
         | inr second ↦ let k = unheld c l.second second in place_not_held known k.0 (inr k.1) k.2
@@ -54,32 +55,29 @@ module _ (c : Case) (entered : LinesEntered c.formulas c.lines) where
       ]
     ]
 
-    module _ (known : l.formula < length c.formulas) (placed : (place_held c l.first && place_held c l.second) ≡ true) where
+    module _ (known : l.formula < length c.formulas) (placed : Placed c page l) (room : length c.lines < 512) where
       abbrev s : Stated c l
       s = stated known placed
 
-      by_page : length c.lines < 512 → (eqb l.rule 0 ≡ false) → (v : Verdict) → page.verdict l.rule s.formula s.first s.second ≡ v → Lining c page l (line_by c l v)
-      by_page room other Admitted is = page_admits s room (eqb-false l.rule 0 other) is
-      by_page room other NotAdmitted is = page_does_not_admit s room (eqb-false l.rule 0 other) is
-      by_page room other BeyondLimit is = page_beyond_limit s room (eqb-false l.rule 0 other) is
+      by_page : (eqb l.rule 0 ≡ false) → (v : Verdict) → page.verdict l.rule s.formula s.first s.second ≡ v → Lining c page l (line_by c l v)
+      by_page other Admitted is = page_admits s room (eqb-false l.rule 0 other) is
+      by_page other NotAdmitted is = page_does_not_admit s room (eqb-false l.rule 0 other) is
+      by_page other BeyondLimit is = page_beyond_limit s room (eqb-false l.rule 0 other) is
 
-      by_rule : length c.lines < 512 → Lining c page l (line_by c l (line_verdict c page l))
+      by_rule : Lining c page l (line_by c l (line_verdict c page l))
       unfolding stated
-      by_rule room =
+      by_rule =
           cond_both (eqb l.rule 0) (assumption_verdict c l) (page.verdict l.rule s.formula s.first s.second) (λ v. Lining c page l (line_by c l v))
           (λ zero. cond_both (states c l) Admitted NotAdmitted (λ v. Lining c page l (line_by c l v))
           (λ t. assumption_line s room (states_assumption c l (eqb-true l.rule 0 zero) t))
           (λ f. no_assumption s room (eqb-true l.rule 0 zero) (λ a. true≢false (sym (stated_tested c l a) ∙ f))))
-          (λ other. by_page room other (page.verdict l.rule s.formula s.first s.second) refl)
+          (λ other. by_page other (page.verdict l.rule s.formula s.first s.second) refl)
 
 pub line_exact : LineExact
-unfolding line
-line_exact c entered page l =
-    cond_both (Dec.ltb l.formula (length c.formulas)) _ (unchanged c (Err NotEntered)) (Lining c page l)
-    (λ known. let f_in = ltb-true l.formula (length c.formulas) known in
-    cond_both (place_held c l.first && place_held c l.second) _ (unchanged c (Err LineNotHeld)) (Lining c page l)
-    (λ placed. cond_both (Dec.ltb (length c.lines) 512) (line_by c l (line_verdict c page l)) (unchanged c (Err LinesFull)) (Lining c page l)
-    (λ few. by_rule c entered page l f_in placed (ltb-true (length c.lines) 512 few))
-    (λ full. lines_full (stated c entered page l f_in placed) (ltb-false (length c.lines) 512 full)))
-    (unplaced c entered page l f_in))
-    (λ past. formula_not_entered (ltb-false l.formula (length c.formulas) past))
+line_exact c entered page l = by (line_goes c page l)
+  where
+    by : {o : Outcome ℕ} → LineGoes c page l o → Lining c page l o
+    by (unknown past) = formula_not_entered past
+    by (unplaced known at) = place_missing c entered page l known at
+    by (full known placed most) = lines_full (stated c entered page l known placed) most
+    by (judged known placed room v is) = subst (λ u. Lining c page l (line_by c l u)) is (by_rule c entered page l known placed room)

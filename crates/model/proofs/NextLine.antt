@@ -9,7 +9,7 @@ use Rattle.calculus.specs.Pages.{Page}
 use Rattle.calculus.specs.Published.{published}
 use Rattle.calculus.specs.Derivations.{DerivationLine, PremiseOf, no_premise as no_premise_of, on_earlier, Justified, by_assumption, by_rule, by_derived_rule, Derivation}
 use Rattle.calculus.proofs.Exact.{published_exact, derived_exact, derived_numbers}
-use Rattle.formulas.proofs.Members.{some_same, nth_within, nth_there, nth_pushed}
+use Rattle.lists.proofs.Members.{some_same, nth_within, nth_there, nth_pushed}
 use Rattle.model.specs.declared.line.Line.{Line}
 use Rattle.model.specs.Case.{Case}
 use Rattle.model.specs.Describes.{Number}

@@ -14,7 +14,8 @@ use Rattle.model.specs.Promises.{RefutationHeldExactly}
 use Rattle.model.proofs.Checks.{check_passes}
 use Rattle.model.proofs.Describing.{numbered_is}
 use Rattle.model.proofs.Judged.{first_failure}
-use Rattle.model.proofs.RefuteChanges.{refute_allowed, refute_breaks}
+use Rattle.model.proofs.Changes.{refute_allowed}
+use Rattle.model.proofs.Refuted.{refute_breaks}
 use Rattle.model.proofs.RefuteComesTo.{refute_judged}
 
 module _ (c : Case) (entered : AssumptionsEntered c.formulas c.assumptions) (r : Run) (f i : ℕ) (b : Breaks c.formulas c.assumptions r f i) where
@@ -33,7 +34,7 @@ module _ (c : Case) (entered : AssumptionsEntered c.formulas c.assumptions) (r :
 
 pub refutation_held_exactly : RefutationHeldExactly
 refutation_held_exactly c entered r f i n m = (
-  λ is. let p = refute_allowed c r f i n m is in (p.0, p.1, p.2, refute_breaks c r f i n m entered is),
+  λ is. let p = refute_allowed c r f i n m is in (p.0, p.1, p.2, refute_breaks c r f i n m is entered),
   λ p.
       let passed = check_passes c r f i n p.2.entered p.2.short p.2.within p.2.room in
       ap (λ x. x.answer) (refute_judged c r f i p.1 n passed (Ok tt) (judged c entered r f i p.3)) ∙ ap Ok (sym p.0),

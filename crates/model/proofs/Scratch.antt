@@ -10,9 +10,10 @@ use Rattle.truths.proofs.Along.{row_along, with_rows_length}
 use Rattle.truths.specs.Searching.{first_failing}
 use Rattle.truths.proofs.Failing.{first_failing_same}
 use Rattle.model.specs.Case.{Case}
-use Rattle.model.specs.Judging.{check, words_once_checked, words_with_room, true_at, refute_scratch}
+use Rattle.model.specs.Calls.{Outcome}
+use Rattle.model.specs.Judging.{check, true_at, refute_scratch}
 use Rattle.model.specs.Outcomes.{Judgeable}
-use Rattle.model.proofs.Judged.{Checked, checked}
+use Rattle.model.proofs.Judged.{Checked, checked, RefuteGoes, unjudged, full, judged, refute_goes}
 
 -- where the checks pass, a formula can be judged
 pub judgeable : (c : Case) (r : Run) (f i n : ℕ) → check c r f i n ≡ Ok tt → Judgeable c r f i n
@@ -41,11 +42,9 @@ module _ (c : Case) (r : Run) (f i : ℕ) (words : List ℕ) (can : Judgeable c 
 -- refute leaves the scratch as long as it was
 pub refute_scratch_length : (c : Case) (r : Run) (f i : ℕ) (words : List ℕ) → length (refute_scratch c r f i words) ≡ length words
 unfolding refute_scratch
-refute_scratch_length c r f i words = by (check c r f i (length words)) (checked c r f i (length words))
+refute_scratch_length c r f i words = by (refute_goes c r f i (length words))
   where
-    by : (k : Result (Unit {0}) Refusal) → Checked c r f i (length words) k
-        → length (words_once_checked words k (words_with_room c r words)) ≡ length words
-    by (Ok done) can =
-        cond_both (Dec.ltb (length c.refutations) 64) (with_rows r c.formulas words) words (λ (ws : List ℕ). length ws ≡ length words)
-        (λ _. with_rows_length r c.formulas words can.room) (λ _. refl)
-    by (Err e) unjudgeable = refl
+    by : {o : Outcome ℕ} {left : List ℕ → List ℕ} → RefuteGoes c r f i (length words) o left → length (left words) ≡ length words
+    by (unjudged e cannot) = refl
+    by (full can most) = refl
+    by (judged can room v is) = with_rows_length r c.formulas words can.room

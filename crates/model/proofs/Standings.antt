@@ -2,10 +2,10 @@
 use Rattle.std.proofs.Common.{◌≡◌, ℕ, ◌<◌, length, Some, None, Ok, Err, Option, refl, ap, ◌∙◌, ◌≢◌, arith}
 use lib.Dec
 use Rattle.std.specs.List.{slice_get}
-use Rattle.std.proofs.lemmas.Bool.{cond_both, ltb-true, ltb-false}
+use Rattle.std.proofs.lemmas.Bool.{cond_both, leb-true, leb-false}
 use Rattle.refusals.specs.declared.Refusal.TheVariants.{NotEntered}
 use Rattle.logic.specs.Formula.{Formula}
-use Rattle.formulas.proofs.Members.{nth_within, nth_there}
+use Rattle.lists.proofs.Members.{nth_within, nth_there}
 use Rattle.model.specs.declared.line.Line.{Line}
 use Rattle.model.specs.declared.refutation.Refutation.{Refutation}
 use Rattle.model.specs.History.{Stage, History, after, Formed, HeldLine}
@@ -14,7 +14,7 @@ use Rattle.model.specs.Reads.{standing_by, first_line, first_refutation_of}
 use Rattle.model.proofs.Histories.{formulas_from, formed_there}
 use Rattle.model.proofs.FirstOf.{first_is, first_least, none_found}
 use Rattle.model.proofs.HeldLines.{lines_from, line_there}
-use Rattle.model.proofs.HeldRefutations.{held_from, held_there}
+use Rattle.model.proofs.HeldRefutations.{refutations_exactly, held_there}
 
 abbrev line_formula : Line → ℕ
 line_formula l = l.formula
@@ -35,7 +35,7 @@ module _ (s : Stage) (h : History s) (f : ℕ) (A : Formula) (formed : Formed s 
         let x = first_is refutation_formula (after h).refutations f n found in
         let there : slice_get (after h).refutations n ≡ Some (record { formula = f; position = x.0.position }) =
         x.1 ∙ ap (λ (g : ℕ). Some (record { formula = g; position = x.0.position })) x.2 in
-        let p = held_from s h n f x.0.position there in
+        let p = (refutations_exactly s h).from n _ there in
         refuted_first A formed no_line n x.0.position p.0 p.1
         (λ m j q lt held. first_least refutation_formula (after h).refutations f n found m _ lt (held_there s h m f j q held) refl)
     by_refutation None found =
@@ -48,10 +48,8 @@ module _ (s : Stage) (h : History s) (f : ℕ) (A : Formula) (formed : Formed s 
 
 pub standing_tells : StandingTells
 standing_tells s h f =
-    cond_both (Dec.ltb f (length (after h).formulas)) _ (Err NotEntered) (Stands s h f)
+    cond_both (Dec.leb (length (after h).formulas) f) (Err NotEntered) _ (Stands s h f)
+    (λ past. not_entered (λ A formed. omega (arith, nth_within (after h).formulas f (formed_there s h f A formed), leb-true (length (after h).formulas) f past)))
     (λ known.
-    let A = nth_there (after h).formulas f (ltb-true f (length (after h).formulas) known) in
+    let A = nth_there (after h).formulas f (leb-false (length (after h).formulas) f known) in
     stands s h f A.0 (formulas_from s h f A.0 A.1) (first_line (after h) f) refl)
-    (λ past. not_entered (λ A formed.
-    let f_in : f < length (after h).formulas = nth_within (after h).formulas f (formed_there s h f A formed) in
-    omega (arith, ltb-false f (length (after h).formulas) past)))

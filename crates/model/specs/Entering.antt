@@ -9,7 +9,7 @@ use Rattle.calculus.specs.Pages.{Page}
 use Rattle.calculus.specs.Published.{published}
 use Rattle.calculus.specs.Derived.{derived}
 use Rattle.calculus.specs.Derivations.{DerivationLine, Derivation}
-use Rattle.formulas.specs.Adding.{Distinct}
+use Rattle.lists.specs.Adding.{Distinct}
 use Rattle.model.specs.declared.line.Line.{Line}
 use Rattle.model.specs.Describes.{Number, Describes}
 use Rattle.model.specs.History.{sealed_stage, Call, form, truth, line, refute, History, then, after, Refused, Formed, Assumed, HeldLine}

@@ -1,5 +1,5 @@
 -- What truth and refute answer, and what they leave of the case and of the scratch words.
-use Rattle.std.specs.Prelude.{ℕ, ◌+◌, ◌*◌, Bool, cond, List, [], ◌∷◌, ◌++◌, length, Some, None, Ok, Err, Option, Result, nat_le, nat_lt}
+use Rattle.std.specs.Prelude.{ℕ, ◌+◌, ◌*◌, Bool, if◌then◌else◌, List, [], ◌∷◌, ◌++◌, length, Some, None, Ok, Err, Option, Result, nat_le, nat_lt}
 use Rattle.refusals.specs.declared.Refusal.{Refusal}
 use Rattle.refusals.specs.declared.Refusal.TheVariants.{NotEntered, RunTooLong, PastRun, ScratchTooShort, AssumptionFalse, FormulaTrue, RefutationsFull}
 use Rattle.logic.specs.Run.{Run}
@@ -11,21 +11,14 @@ use Rattle.model.specs.declared.refutation.Refutation.{Refutation}
 use Rattle.model.specs.Case.{Case}
 use Rattle.model.specs.Calls.{Outcome, unchanged}
 
--- a case with other refutations
-abbrev pub with_refutations : Case → List Refutation → Case
-with_refutations c xs = record { formulas = c.formulas; assumptions = c.assumptions; lines = c.lines; refutations = xs }
-
 -- the checks that truth and refute share, in their order: n is the number of scratch words
 abbrev pub check : Case → Run → ℕ → ℕ → ℕ → Result (Unit {0}) Refusal
 check c r f i n =
-    cond (nat_lt f (length c.formulas))
-    (cond (nat_le (r.stem + r.loop) 256)
-    (cond (nat_lt i (r.stem + r.loop))
-    (cond (nat_le (4 * length c.formulas) n) (Ok tt)
-    (Err ScratchTooShort))
-    (Err PastRun))
-    (Err RunTooLong))
-    (Err NotEntered)
+    if nat_le (length c.formulas) f then Err NotEntered
+    else if nat_lt 256 (r.stem + r.loop) then Err RunTooLong
+    else if nat_le (r.stem + r.loop) i then Err PastRun
+    else if nat_lt n (4 * length c.formulas) then Err ScratchTooShort
+    else Ok tt
 
 -- what comes behind the checks: where one of them refuses, the case stays as it is, and so do the scratch words, below
 abbrev pub once_checked : {A : Type 0} → Case → Result (Unit {0}) Refusal → Outcome A → Outcome A
@@ -52,7 +45,7 @@ truth_scratch c r f i words = words_once_checked words (check c r f i (length wo
 -- a run is no refutation if an assumption is false somewhere, or else if the formula is true at the position
 abbrev pub judged_by : Option (ℕ × ℕ) → Bool → Result (Unit {0}) Refusal
 judged_by (Some x) b = Err (AssumptionFalse x.0 x.1)
-judged_by None b = cond b (Err FormulaTrue) (Ok tt)
+judged_by None b = if b then Err FormulaTrue else Ok tt
 
 -- whether a run refutes a formula at a position
 abbrev pub judge : Case → Run → ℕ → ℕ → Result (Unit {0}) Refusal
@@ -62,17 +55,21 @@ judge c r f i = judged_by (first_failing (true_at c r) (r.stem + r.loop) 0 c.ass
 abbrev pub held_by : Case → ℕ → ℕ → Result (Unit {0}) Refusal → Outcome ℕ
 held_by c f i (Ok done) = record {
   answer = Ok (length c.refutations);
-  after = with_refutations c (c.refutations ++ record { formula = f; position = i } ∷ []);
+  after = record c { refutations = c.refutations ++ record { formula = f; position = i } ∷ [] };
 }
 held_by c f i (Err e) = unchanged c (Err e)
 
 -- a case holds 64 refutations: a formula is judged if there is room for one more
 abbrev pub with_room : Case → Run → ℕ → ℕ → Outcome ℕ
-with_room c r f i = cond (nat_lt (length c.refutations) 64) (held_by c f i (judge c r f i)) (unchanged c (Err RefutationsFull))
+with_room c r f i =
+    if nat_le 64 (length c.refutations) then unchanged c (Err RefutationsFull)
+    else held_by c f i (judge c r f i)
 
 -- the scratch words then: without room they stay as they are
 abbrev pub words_with_room : Case → Run → List ℕ → List ℕ
-words_with_room c r words = cond (nat_lt (length c.refutations) 64) (with_rows r c.formulas words) words
+words_with_room c r words =
+    if nat_le 64 (length c.refutations) then words
+    else with_rows r c.formulas words
 
 -- a formula is refuted at a position of a run
 unfoldable pub refute : Case → Run → ℕ → ℕ → ℕ → Outcome ℕ

@@ -2,7 +2,7 @@
 use Rattle.std.specs.Prelude.{◌≡◌, ℕ, ◌<◌, ◌≤◌, ◌⊎◌, List, length, Some}
 use Rattle.std.specs.List.{slice_get}
 use Rattle.logic.specs.Formula.{Formula}
-use Rattle.formulas.specs.Adding.{Distinct}
+use Rattle.lists.specs.Adding.{Distinct}
 use Rattle.model.specs.declared.line.Line.{Line}
 use Rattle.model.specs.declared.refutation.Refutation.{Refutation}
 use Rattle.model.specs.Case.{Case}

@@ -1,5 +1,5 @@
 -- What line answers, and what it leaves of the case.
-use Rattle.std.specs.Prelude.{ℕ, Bool, true, cond, ◌&&◌, List, [], ◌∷◌, ◌++◌, length, Some, None, Ok, Err, Option, ◌==◌, nat_eq, nat_lt, is_some, is_none}
+use Rattle.std.specs.Prelude.{ℕ, Bool, true, not, if◌then◌else◌, ◌&&◌, [], ◌∷◌, ◌++◌, length, Some, None, Ok, Err, Option, ◌==◌, nat_eq, nat_lt, nat_le, is_some, is_none}
 use Rattle.std.specs.List.{slice_get}
 use Rattle.std.specs.Option.{option_map}
 use Rattle.refusals.specs.declared.Refusal.TheVariants.{NotEntered, LineNotHeld, LinesFull, NotAdmitted as NotAdmittedRefusal, BeyondLimit as BeyondLimitRefusal}
@@ -7,15 +7,11 @@ use Rattle.logic.specs.Formula.{Formula}
 use Rattle.calculus.specs.declared.verdict.Verdict.{Verdict}
 use Rattle.calculus.specs.declared.verdict.Verdict.TheVariants.{Admitted, NotAdmitted, BeyondLimit}
 use Rattle.calculus.specs.Pages.{Page}
-use Rattle.formulas.specs.Adding.{place}
+use Rattle.lists.specs.Adding.{place}
 use Rattle.formulas.specs.Forming.{numbered}
 use Rattle.model.specs.declared.line.Line.{Line}
 use Rattle.model.specs.Case.{Case}
 use Rattle.model.specs.Calls.{Outcome, unchanged}
-
--- a case with other lines
-abbrev pub with_lines : Case → List Line → Case
-with_lines c ls = record { formulas = c.formulas; assumptions = c.assumptions; lines = ls; refutations = c.refutations }
 
 -- a place is empty, or the number of a held line
 abbrev pub place_held : Case → Option ℕ → Bool
@@ -29,26 +25,26 @@ premise c (Some k) = option_map (λ l. numbered c.formulas l.formula) (slice_get
 
 -- rule 0 is the case's own: it admits an assumption, with both places empty
 abbrev pub assumption_verdict : Case → Line → Verdict
-assumption_verdict c l = cond (is_none l.first && (is_none l.second && is_some (place nat_eq c.assumptions l.formula))) Admitted NotAdmitted
+assumption_verdict c l =
+    if is_none l.first && (is_none l.second && is_some (place nat_eq c.assumptions l.formula)) then Admitted
+    else NotAdmitted
 
 -- every other rule is the page's
 abbrev pub line_verdict : Case → Page → Line → Verdict
 line_verdict c page l =
-    cond (l.rule == 0) (assumption_verdict c l)
-    (page.verdict l.rule (numbered c.formulas l.formula) (premise c l.first) (premise c l.second))
+    if l.rule == 0 then assumption_verdict c l
+    else page.verdict l.rule (numbered c.formulas l.formula) (premise c l.first) (premise c l.second)
 
 -- a line is held if it is admitted
 abbrev pub line_by : Case → Line → Verdict → Outcome ℕ
-line_by c l Admitted = record { answer = Ok (length c.lines); after = with_lines c (c.lines ++ l ∷ []) }
+line_by c l Admitted = record { answer = Ok (length c.lines); after = record c { lines = c.lines ++ l ∷ [] } }
 line_by c l NotAdmitted = unchanged c (Err NotAdmittedRefusal)
 line_by c l BeyondLimit = unchanged c (Err BeyondLimitRefusal)
 
 -- a line is entered under a page; a case holds 512
 unfoldable pub line : Case → Page → Line → Outcome ℕ
 line c page l =
-    cond (nat_lt l.formula (length c.formulas))
-    (cond (place_held c l.first && place_held c l.second)
-    (cond (nat_lt (length c.lines) 512) (line_by c l (line_verdict c page l))
-    (unchanged c (Err LinesFull)))
-    (unchanged c (Err LineNotHeld)))
-    (unchanged c (Err NotEntered))
+    if nat_le (length c.formulas) l.formula then unchanged c (Err NotEntered)
+    else if not (place_held c l.first && place_held c l.second) then unchanged c (Err LineNotHeld)
+    else if nat_le 512 (length c.lines) then unchanged c (Err LinesFull)
+    else line_by c l (line_verdict c page l)

@@ -1,8 +1,9 @@
 -- What the calls do, as relations: one case of each for every way that a call can end.
 use Rattle.std.specs.Prelude.{◌≡◌, ℕ, ◌+◌, ◌*◌, ◌<◌, ◌≤◌, Bool, true, false, ◌⊎◌, List, [], ◌∷◌, ◌++◌, length, Some, None, Ok, Err, Option, ◌≢◌}
 use Rattle.std.specs.List.{slice_get}
+use Rattle.formulas.specs.declared.refusal.FormRefusal.TheVariants.{UnknownKind, BadField, FormulasFull}
 use Rattle.refusals.specs.declared.Refusal.{Refusal}
-use Rattle.refusals.specs.declared.Refusal.TheVariants.{UnknownKind, BadField, FormulasFull, NotEntered, AssumptionsFull, LineNotHeld, LinesFull, NotAdmitted as NotAdmittedRefusal, BeyondLimit as BeyondLimitRefusal, RunTooLong, PastRun, ScratchTooShort, AssumptionFalse, FormulaTrue, RefutationsFull}
+use Rattle.refusals.specs.declared.Refusal.TheVariants.{Form, NotEntered, AssumptionsFull, LineNotHeld, LinesFull, NotAdmitted as NotAdmittedRefusal, BeyondLimit as BeyondLimitRefusal, RunTooLong, PastRun, ScratchTooShort, AssumptionFalse, FormulaTrue, RefutationsFull}
 use Rattle.logic.specs.Formula.{Formula}
 use Rattle.logic.specs.Run.{Run}
 use Rattle.logic.specs.Truth.{Holds, Throughout}
@@ -11,9 +12,7 @@ use Rattle.calculus.specs.Pages.{Page}
 use Rattle.truths.specs.Along.{with_rows}
 use Rattle.model.specs.declared.line.Line.{Line}
 use Rattle.model.specs.Case.{Case}
-use Rattle.model.specs.Calls.{Outcome, unchanged, with_formulas, with_assumptions}
-use Rattle.model.specs.Lines.{with_lines}
-use Rattle.model.specs.Judging.{with_refutations}
+use Rattle.model.specs.Calls.{Outcome, unchanged}
 use Rattle.model.specs.Describes.{Number, Describes}
 use Rattle.model.specs.Breaking.{Assumes, Keeps, Breaks}
 
@@ -23,12 +22,12 @@ Absent xs x = (k : ℕ) → slice_get xs k ≢ Some x
 
 -- form: the kind is above 4; the fields describe no formula; or they describe one, which is there, is new and finds the list full, or is new and entered
 pub data Forming (c : Case) (kind left right : ℕ) : Outcome ℕ → Type 0 where
-  unknown_kind : 4 < kind → Forming c kind left right (unchanged c (Err UnknownKind))
-  bad_field : kind ≤ 4 → ((A : Formula) → Describes c.formulas kind left right A → ⊥) → Forming c kind left right (unchanged c (Err BadField))
+  unknown_kind : 4 < kind → Forming c kind left right (unchanged c (Err (Form UnknownKind)))
+  bad_field : kind ≤ 4 → ((A : Formula) → Describes c.formulas kind left right A → ⊥) → Forming c kind left right (unchanged c (Err (Form BadField)))
   formula_there : (A : Formula) → Describes c.formulas kind left right A → (n : ℕ) → slice_get c.formulas n ≡ Some A → Forming c kind left right (unchanged c (Ok n))
-  formulas_full : (A : Formula) → Describes c.formulas kind left right A → Absent c.formulas A → 1024 ≤ length c.formulas → Forming c kind left right (unchanged c (Err FormulasFull))
+  formulas_full : (A : Formula) → Describes c.formulas kind left right A → Absent c.formulas A → 1024 ≤ length c.formulas → Forming c kind left right (unchanged c (Err (Form FormulasFull)))
   formula_entered : (A : Formula) → Describes c.formulas kind left right A → Absent c.formulas A → length c.formulas < 1024
-      → Forming c kind left right (record { answer = Ok (length c.formulas); after = with_formulas c (c.formulas ++ A ∷ []) })
+      → Forming c kind left right (record { answer = Ok (length c.formulas); after = record c { formulas = c.formulas ++ A ∷ [] } })
 
 -- assume: the formula is not entered; or it is, and is assumed already, is new and finds the list full, or is new and assumed
 pub data Assuming (c : Case) (f : ℕ) : Outcome ℕ → Type 0 where
@@ -36,7 +35,7 @@ pub data Assuming (c : Case) (f : ℕ) : Outcome ℕ → Type 0 where
   assumption_there : f < length c.formulas → (k : ℕ) → slice_get c.assumptions k ≡ Some f → Assuming c f (unchanged c (Ok k))
   assumptions_full : f < length c.formulas → Absent c.assumptions f → 16 ≤ length c.assumptions → Assuming c f (unchanged c (Err AssumptionsFull))
   newly_assumed : f < length c.formulas → Absent c.assumptions f → length c.assumptions < 16
-      → Assuming c f (record { answer = Ok (length c.assumptions); after = with_assumptions c (c.assumptions ++ f ∷ []) })
+      → Assuming c f (record { answer = Ok (length c.assumptions); after = record c { assumptions = c.assumptions ++ f ∷ [] } })
 
 -- a place is empty and there is no premise, or it is the number of a held line and the premise is its formula
 pub data Premise (c : Case) : Option ℕ → Option Formula → Type 0 where
@@ -62,7 +61,7 @@ pub record StatesAssumption (c : Case) (l : Line) : Type 0 where
 
 -- the line is held, behind those that are
 abbrev pub line_held : Case → Line → Outcome ℕ
-line_held c l = record { answer = Ok (length c.lines); after = with_lines c (c.lines ++ l ∷ []) }
+line_held c l = record { answer = Ok (length c.lines); after = record c { lines = c.lines ++ l ∷ [] } }
 
 -- line: the formula is not entered, or a place is a line's number that is not held; or the line is stated, and 512 are held; or there is room, and it states an assumption by rule 0 or does not, or by another rule the page's verdict on it is one of three
 pub data Lining (c : Case) (page : Page) (l : Line) : Outcome ℕ → Type 0 where
@@ -120,5 +119,5 @@ pub data Refuting (c : Case) (r : Run) (f i : ℕ) (words : List ℕ) : Outcome 
       → Refuting c r f i words (unchanged c (Err FormulaTrue)) (with_rows r c.formulas words)
   newly_held : Judgeable c r f i (length words) → length c.refutations < 64 → Breaks c.formulas c.assumptions r f i
       → Refuting c r f i words
-      (record { answer = Ok (length c.refutations); after = with_refutations c (c.refutations ++ record { formula = f; position = i } ∷ []) })
+      (record { answer = Ok (length c.refutations); after = record c { refutations = c.refutations ++ record { formula = f; position = i } ∷ [] } })
       (with_rows r c.formulas words)

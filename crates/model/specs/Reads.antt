@@ -1,5 +1,5 @@
 -- What is read of a case.
-use Rattle.std.specs.Prelude.{ℕ, cond, List, length, Some, None, Ok, Err, Option, Result, nat_eq, nat_lt}
+use Rattle.std.specs.Prelude.{ℕ, if◌then◌else◌, List, length, Some, None, Ok, Err, Option, Result, nat_eq, nat_le}
 use Rattle.std.specs.List.{slice_get, position}
 use Rattle.std.specs.Option.{option_map, unwrap_or, ok_or}
 use Rattle.refusals.specs.declared.Refusal.{Refusal}
@@ -8,7 +8,7 @@ use Rattle.logic.specs.Formula.{Formula, falsum, atom, implies, next, always}
 use Rattle.logic.specs.Same.{same}
 use Rattle.formulas.specs.declared.entry.Entry.{Entry}
 use Rattle.formulas.specs.declared.entry.Entry.TheVariants.{False, Atom, Implies, Next, Always}
-use Rattle.formulas.specs.Adding.{place}
+use Rattle.lists.specs.Adding.{place}
 use Rattle.model.specs.declared.counts.Counts.{Counts}
 use Rattle.model.specs.declared.line.Line.{Line}
 use Rattle.model.specs.declared.refutation.Refutation.{Refutation}
@@ -68,4 +68,6 @@ first_refutation_of c f = position (λ x. nat_eq x.formula f) c.refutations
 
 -- the standing of an entered formula
 abbrev pub standing_in : Case → ℕ → Result Standing Refusal
-standing_in c f = cond (nat_lt f (length c.formulas)) (Ok (standing_by (first_line c f) (first_refutation_of c f))) (Err NotEntered)
+standing_in c f =
+    if nat_le (length c.formulas) f then Err NotEntered
+    else Ok (standing_by (first_line c f) (first_refutation_of c f))

@@ -4,52 +4,64 @@
 ghost use Rattle.std.specs.Prelude.{◌≡◌};
 ghost use Rattle.refusals.specs.Numbers.{number_of};
 
-#[derive(Clone, Copy, PartialEq, Eq, Debug)]
+use formulas::FormRefusal;
+use thiserror::Error;
+
+/// Why a call on a case is refused. Each has the number that a caller is told.
+#[derive(Clone, Copy, PartialEq, Eq, Debug, Drop, Error)]
 pub enum Refusal {
-    // form: the kind is above 4
-    UnknownKind,
-    // form: an operand is not entered, an atom is above 31, or an unused field is not 0
-    BadField,
-    // form: the formula is new, and 1,024 are entered
-    FormulasFull,
-    // the formula is not entered
+    /// 1, 2 or 3: `form` enters nothing, as the formula list says.
+    #[error(transparent)]
+    Form(FormRefusal),
+    /// 4: the formula is not entered.
+    #[error("the formula is not entered")]
     NotEntered,
-    // assume: the assumption is new, and 16 are there
+    /// 5: the assumption is new, and 16 are there.
+    #[error("the assumption is new, and there are 16")]
     AssumptionsFull,
-    // a line number that is not held: at a place of a line, or of a line that is read
+    /// 6: no line with this number is held: at a place of a line, or of a line that is read.
+    #[error("no line with this number is held")]
     LineNotHeld,
-    // line: 512 lines are held
+    /// 7: 512 lines are held.
+    #[error("512 lines are held")]
     LinesFull,
-    // line: the page does not admit it, or by rule 0 it is no assumption or has a place that is not empty
+    /// 8: the page does not admit the line, or by rule 0 it is no assumption or has a place that is not empty.
+    #[error("the line is not admitted")]
     NotAdmitted,
-    // line: the page says that it is beyond its limit
+    /// 9: the page says that the line is beyond its limit.
+    #[error("the line is beyond the limit of the page")]
     BeyondLimit,
-    // the run's stem and loop have more than 256 positions
+    /// 10: the run's stem and loop have more than 256 positions.
+    #[error("the run's stem and loop have more than 256 positions")]
     RunTooLong,
-    // the position is past the end of the run's loop
+    /// 11: the position lies past the end of the run's loop.
+    #[error("the position lies past the end of the run's loop")]
     PastRun,
-    // the scratch has fewer than 4 words for each formula
+    /// 12: the scratch has fewer than 4 words for each formula.
+    #[error("the scratch has fewer than 4 words for each formula")]
     ScratchTooShort,
-    // refute: an assumption is false somewhere, by its place and the first position where it is
-    AssumptionFalse(u16, u16),
-    // refute: the formula is true at the position
+    /// 13: an assumption is false somewhere: the place of the first such one, and the first position where it is.
+    #[error("the assumption at place {place} is false at position {position}")]
+    AssumptionFalse { place: u16, position: u16 },
+    /// 14: the formula is true at the position.
+    #[error("the formula is true at the position")]
     FormulaTrue,
-    // refute: 64 refutations are held
+    /// 15: 64 refutations are held.
+    #[error("64 refutations are held")]
     RefutationsFull,
-    // no refutation with this number is held
+    /// 16: no refutation with this number is held.
+    #[error("no refutation with this number is held")]
     RefutationNotHeld,
 }
 
 impl Refusal {
-    // The number that a caller is told. By a name, and no `From` or trait, so that a call says which number it is.
-    // By a match, and no numbers at the variants: one of them carries two numbers.
+    /// The number that a caller is told, 1 to 16. By a name, and no `From` or trait, so that a call says which number it is.
+    // By a match, and no numbers at the variants: two of them hold values.
     pub fn number(self) -> u8
         ensures { result ≡ number_of self }
     {
         match self {
-            Refusal::UnknownKind => 1,
-            Refusal::BadField => 2,
-            Refusal::FormulasFull => 3,
+            Refusal::Form(refusal) => refusal.number(),
             Refusal::NotEntered => 4,
             Refusal::AssumptionsFull => 5,
             Refusal::LineNotHeld => 6,
@@ -59,10 +71,21 @@ impl Refusal {
             Refusal::RunTooLong => 10,
             Refusal::PastRun => 11,
             Refusal::ScratchTooShort => 12,
-            Refusal::AssumptionFalse(_, _) => 13,
+            Refusal::AssumptionFalse { .. } => 13,
             Refusal::FormulaTrue => 14,
             Refusal::RefutationsFull => 15,
             Refusal::RefutationNotHeld => 16,
         }
+    }
+}
+
+impl From<FormRefusal> for Refusal {
+    ghost use Rattle.refusals.specs.declared.Refusal.TheVariants.{Form};
+
+    ghost from_gives = { λ refusal r. r ≡ Form refusal };
+
+    /// The refusal that holds it whole.
+    fn from(refusal: FormRefusal) -> Refusal {
+        Refusal::Form(refusal)
     }
 }

@@ -11,12 +11,12 @@ use Rattle.logic.specs.Same.{same}
 use Rattle.logic.proofs.Same.{same_true, same_refl}
 use Rattle.formulas.specs.declared.entry.Entry.{Entry}
 use Rattle.formulas.specs.declared.entry.Entry.TheVariants.{False, Atom, Implies, Next, Always}
-use Rattle.formulas.specs.Adding.{Distinct}
+use Rattle.lists.specs.Adding.{Distinct}
 use Rattle.formulas.specs.Entries.{placed, Lower}
 use Rattle.formulas.specs.Decode.{of_entry, formula_at, decoded}
 use Rattle.formulas.specs.Forming.{numbered}
 use Rattle.formulas.proofs.Decoded.{of_entry_same, formula_at_is, formula_injective, decoded_length, decoded_at}
-use Rattle.formulas.proofs.Members.{some_same, some_not_none, nth_within, nth_there}
+use Rattle.lists.proofs.Members.{some_same, some_not_none, nth_within, nth_there}
 use Rattle.rules.specs.Matching.{may_be, with_letter, none_known, matched, if_false, if_implies, if_next, if_always, matched_in, Shape, premise_matched, premise_matched_in, is_instance, letters_in}
 use Rattle.rules.specs.Questions.{premise_entered}
 

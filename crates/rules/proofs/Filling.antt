@@ -8,7 +8,7 @@ use Rattle.std.proofs.lemmas.Option.{slice_get-get_or}
 use Rattle.logic.specs.Formula.{Formula, falsum, atom, implies, next, always}
 use Rattle.logic.specs.Same.{kind, left, right, same}
 use Rattle.logic.proofs.Same.{same_true, same_refl}
-use Rattle.formulas.proofs.Members.{some_same, some_not_none, nth_within}
+use Rattle.lists.proofs.Members.{some_same, some_not_none, nth_within}
 use Rattle.rules.specs.Matching.{may_be, matched}
 
 -- a formula with one formula put in the place of each atom

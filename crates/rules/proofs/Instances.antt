@@ -4,7 +4,7 @@ use Rattle.std.specs.List.{slice_get}
 use Rattle.std.specs.Option.{option_map, option_and_then}
 use Rattle.std.proofs.lemmas.Bool.{and_parts, false≢true}
 use Rattle.logic.specs.Formula.{Formula, falsum}
-use Rattle.formulas.proofs.Members.{some_same, some_not_none}
+use Rattle.lists.proofs.Members.{some_same, some_not_none}
 use Rattle.rules.specs.Matching.{none_known, matched, Shape, premise_matched, is_instance}
 use Rattle.rules.proofs.Filling.{filled, Letters, Agrees, Keeps, later, letters_below, and_then_some, sound, Complete, complete}
 

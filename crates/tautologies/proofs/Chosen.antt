@@ -2,7 +2,7 @@
 use Rattle.std.proofs.Common.{ℕ, Bool, false, List, Some, None, Option}
 use Rattle.logic.specs.Formula.{Formula}
 use Rattle.logic.specs.Same.{same}
-use Rattle.formulas.specs.Adding.{place}
+use Rattle.lists.specs.Adding.{place}
 use Rattle.rows.specs.Row.{testBit}
 
 -- the bit at a place, if there is one

@@ -2,8 +2,8 @@
 use Rattle.std.proofs.Common.{◌≡◌, ℕ, zero, suc, ◌-◌, ◌<◌, ◌≤◌, ◌⊎◌, List, length, sym, ◌∙◌, subst, inl, inr, arith}
 use Rattle.std.specs.List.{slice_get}
 use Rattle.std.proofs.lemmas.Bool.{cases_eq, cases_lt}
-use Rattle.formulas.specs.Adding.{Distinct, Member}
-use Rattle.formulas.proofs.Members.{nth_within, nth_there}
+use Rattle.lists.specs.Adding.{Distinct, Member}
+use Rattle.lists.proofs.Members.{nth_within, nth_there}
 
 -- what is left of a relation when one value is taken out
 abbrev Without : (ℕ → ℕ → Type 0) → ℕ → ℕ → ℕ → Type 0

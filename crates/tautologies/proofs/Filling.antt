@@ -1,7 +1,7 @@
 -- Lists that are filled place by place.
 use Rattle.std.proofs.Common.{[], ap, ◌≡◌, ℕ, ◌<◌, List, length, get_or, set, sym, ◌∙◌, get_or-set_other, get_or-set_same}
 use Rattle.std.proofs.lemmas.Option.{slice_get-get_or}
-use Rattle.formulas.proofs.Members.{some_same}
+use Rattle.lists.proofs.Members.{some_same}
 
 -- a word of a row that was written, and of any other
 pub word_same : (rows : List (List ℕ)) (p w : ℕ) (row : List ℕ) → p < length rows → get_or (get_or (set rows p row) p []) w 0 ≡ get_or row w 0

@@ -8,11 +8,11 @@ use Rattle.std.proofs.lemmas.List.{length-map, length_push, get_or-replicate, ge
 use Rattle.logic.specs.Formula.{Formula, falsum}
 use Rattle.formulas.specs.declared.entry.Entry.{Entry}
 use Rattle.formulas.specs.declared.entry.Entry.TheVariants.{False, Atom, Implies, Next, Always}
-use Rattle.formulas.specs.Adding.{Distinct, Member}
+use Rattle.lists.specs.Adding.{Distinct, Member}
 use Rattle.formulas.specs.Decode.{of_entry, formula_at}
 use Rattle.formulas.specs.Entries.{placed}
 use Rattle.formulas.proofs.Decoded.{formula_at_is, formula_injective}
-use Rattle.formulas.proofs.Members.{some_same, some_not_none, nth_within, nth_there, nth_push, nth_pushed, nth_stays, distinct_push}
+use Rattle.lists.proofs.Members.{some_same, some_not_none, nth_within, nth_there, nth_push, nth_pushed, nth_stays, distinct_push}
 use Rattle.calculus.specs.PrimeParts.{PrimePart, prime_parts}
 use Rattle.calculus.proofs.Parts.{prime_parts_listed}
 use Rattle.tautologies.specs.Gathering.{Entered, Below, Going, GoneThrough, TooManyParts, Gathered, Marked, Prime, formulas_at}

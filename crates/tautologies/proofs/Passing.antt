@@ -4,7 +4,7 @@ use Rattle.std.specs.List.{slice_get}
 use Rattle.std.proofs.lemmas.Bool.{cases_Bool, cases_eq, cases_lt, lt-ltb}
 use Rattle.std.proofs.lemmas.Option.{slice_get-get_or}
 use lib.Bits.{or_lt}
-use Rattle.formulas.proofs.Members.{nth_within}
+use Rattle.lists.proofs.Members.{nth_within}
 use Rattle.rows.specs.Row.{testBit}
 use Rattle.rows.proofs.Bits.{bit_pack, pack_lt, bit_zero, bit_ones, bits_same}
 use Rattle.rows.proofs.Rows.{bitwise_or_not}

@@ -6,7 +6,7 @@ use Rattle.std.proofs.lemmas.List.{length_push}
 use Rattle.formulas.specs.declared.entry.Entry.{Entry}
 use Rattle.formulas.specs.declared.entry.Entry.TheVariants.{False, Implies}
 use Rattle.formulas.specs.Entries.{placed}
-use Rattle.formulas.proofs.Members.{some_not_none, nth_within, nth_append_left, nth_push, nth_pushed}
+use Rattle.lists.proofs.Members.{some_not_none, nth_within, nth_append_left, nth_push, nth_pushed}
 use Rattle.tautologies.specs.declared.step.Step.{Step}
 use Rattle.tautologies.specs.Gathering.{Entered, Gathered, Marked}
 use Rattle.tautologies.proofs.Marks.{formula_is}

@@ -10,13 +10,13 @@ use Rattle.logic.specs.Formula.{Formula, falsum, atom, next, always}
 use Rattle.logic.specs.Same.{same}
 use Rattle.formulas.specs.declared.entry.Entry.{Entry}
 use Rattle.formulas.specs.declared.entry.Entry.TheVariants.{False, Atom, Implies, Next, Always}
-use Rattle.formulas.specs.Adding.{Distinct, place}
+use Rattle.lists.specs.Adding.{Distinct, place}
 use Rattle.formulas.specs.Entries.{placed}
 use Rattle.formulas.specs.Decode.{formula_at}
 use Rattle.formulas.proofs.Decoded.{formula_injective}
-use Rattle.formulas.proofs.Likeness.{same_tells}
-use Rattle.formulas.proofs.Members.{nth_within, nth_there, some_same}
-use Rattle.formulas.proofs.Places.{place_only}
+use Rattle.logic.proofs.Same.{same_tells}
+use Rattle.lists.proofs.Members.{nth_within, nth_there, some_same}
+use Rattle.lists.proofs.Places.{place_only}
 use Rattle.rows.specs.Row.{pack}
 use Rattle.rows.proofs.Bits.{bit_pack, pack_lt}
 use Rattle.calculus.specs.Tautology.{eval, Tautology}

@@ -4,7 +4,7 @@ use Rattle.std.specs.List.{slice_get}
 use Rattle.logic.specs.Formula.{Formula, falsum}
 use Rattle.formulas.specs.declared.entry.Entry.{Entry}
 use Rattle.formulas.specs.declared.entry.Entry.TheVariants.{False, Atom, Implies, Next, Always}
-use Rattle.formulas.specs.Adding.{Distinct, Member}
+use Rattle.lists.specs.Adding.{Distinct, Member}
 use Rattle.formulas.specs.Entries.{Lower}
 use Rattle.formulas.specs.Decode.{formula_at}
 use Rattle.calculus.specs.PrimeParts.{PrimePart, prime_parts}

@@ -1,7 +1,7 @@
 // A plan: where the rows of a formula's parts stand, and the steps by which those of its implications are made.
 ghost use Rattle.std.specs.Prelude.{◌≡◌, ◌≢◌, ℕ, ◌<◌, ◌≤◌, Some, length};
 ghost use Rattle.std.specs.List.{slice_get};
-ghost use Rattle.formulas.specs.Adding.{Distinct};
+ghost use Rattle.lists.specs.Adding.{Distinct};
 ghost use Rattle.tautologies.specs.Gathering.{Entered, Gathered};
 ghost use Rattle.tautologies.specs.Planning.{Planned, place_of};
 

@@ -1,6 +1,7 @@
 // Formulas and assumptions, and the tables that hold them: what is answered and what is refused.
 use cases::OpenCase;
-use formulas::{Entry, Table};
+use formulas::Entry;
+use lists::Table;
 use refusals::Refusal;
 use std::test::Fail;
 

@@ -2,7 +2,7 @@
 use Rattle.std.proofs.Common.{◌≡◌, ℕ, zero, suc, ◌+◌, ◌-◌, ◌<◌, ◌≤◌, Bool, true, false, cond, List, [], ◌∷◌, length, get_or, drop, Some, None, Option, sym, refl, ap, ◌∙◌, subst, ap₂, ⊎_elim, arith}
 use Rattle.std.specs.List.{slice_get}
 use Rattle.std.proofs.lemmas.Bool.{cond_both, cases_eq}
-use Rattle.formulas.proofs.Members.{some_same, some_not_none, nth_within}
+use Rattle.lists.proofs.Members.{some_same, some_not_none, nth_within}
 use Rattle.truths.specs.Searching.{first_false_from, or_else, first_failing}
 
 -- of the n positions from i on, k is the first at which p is false

@@ -3,7 +3,7 @@ use Rattle.std.proofs.Common.{◌≡◌, ℕ, zero, suc, ◌≤◌, ◌+◌, Lis
 use Rattle.std.specs.List.{slice_get}
 use Rattle.logic.specs.Formula.{Formula, atom, implies, next}
 use Rattle.formulas.specs.Forming.{form_answer, form_after}
-use Rattle.formulas.proofs.Members.{some_same, nth_within}
+use Rattle.lists.proofs.Members.{some_same, nth_within}
 use Rattle.runs.specs.Pulses.{pulse_check}
 use Rattle.runs.specs.Rules.{PulseRules}
 use Rattle.runs.specs.Tables.{table_check, table_run}

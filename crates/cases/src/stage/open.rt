@@ -2,7 +2,7 @@
 ghost use Rattle.std.specs.Prelude.{◌≡◌, []};
 
 use crate::stage::{LINES, REFUTATIONS, Stage};
-use formulas::Table;
+use lists::Table;
 use model::{Line, Refutation};
 
 // It holds nothing, and has set memory aside for what it holds once it is sealed.

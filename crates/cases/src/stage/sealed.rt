@@ -1,6 +1,6 @@
 // The second stage: a case has the assumptions that it had when it was sealed, and holds lines and refutations.
 use crate::stage::{LINES, REFUTATIONS, Stage};
-use formulas::Table;
+use lists::Table;
 use model::{Line, Refutation};
 
 #[derive(Drop)]

@@ -2,7 +2,7 @@
 use Rattle.std.proofs.Common.{◌≡◌, ℕ, ◌+◌, ◌-◌, ◌<◌, ◌≤◌, List, set, length-set, length, None, Some, sym, refl, ap, ◌∙◌, subst, arith}
 use Rattle.std.specs.List.{slice_get}
 use Rattle.std.specs.Option.{ok_or}
-use Rattle.formulas.proofs.Members.{nth_there}
+use Rattle.lists.proofs.Members.{nth_there}
 use Rattle.refusals.specs.declared.Refusal.TheVariants.{RefutationNotHeld}
 use Rattle.cases.specs.Model.{sealed}
 use Rattle.model.specs.Case.{Case}

@@ -5,7 +5,7 @@ use Rattle.std.specs.List.{slice_get}
 use Rattle.std.proofs.Math.Nat.{mul-le-mul}
 use Rattle.std.proofs.lemmas.Bool.{cases_eq}
 use Rattle.std.proofs.lemmas.Option.{slice_get-get_or}
-use Rattle.formulas.proofs.Members.{some_same, nth_within}
+use Rattle.lists.proofs.Members.{some_same, nth_within}
 use Rattle.tautologies.specs.declared.step.Step.{Step}
 use Rattle.tautologies.specs.Planning.{LowerSteps, word_at}
 use Rattle.tautologies.proofs.Filling.{word_same, word_other}

@@ -5,7 +5,7 @@ use Rattle.std.specs.List.{slice_get}
 use Rattle.std.proofs.lemmas.Bool.{cases_eq, cases_lt}
 use Rattle.std.proofs.lemmas.Option.{slice_get-get_or}
 use Rattle.std.proofs.lemmas.List.{get_or-replicate, get_or_past}
-use Rattle.formulas.proofs.Members.{some_same, nth_within}
+use Rattle.lists.proofs.Members.{some_same, nth_within}
 use Rattle.tautologies.proofs.planning.part_places.Goals as goal
 
 -- at first all places are that of false

@@ -2,11 +2,11 @@
 use Rattle.std.proofs.Common.{ℕ, ◌<◌, ◌≤◌, eqb, List, length, sym, ap, ◌∙◌, subst, arith}
 use Rattle.std.specs.Option.{ok_or}
 use Rattle.refusals.specs.declared.Refusal.TheVariants.{AssumptionsFull}
-use Rattle.formulas.specs.Adding.{Distinct}
+use Rattle.lists.specs.Adding.{Distinct}
 use Rattle.formulas.specs.Listed.{formulas_of}
-use Rattle.formulas.proofs.Added.{number_or, add_within, add_distinct, add_every}
-use Rattle.formulas.proofs.Members.{some_not_none}
-use Rattle.formulas.proofs.Likeness.{eqb_tells}
+use Rattle.lists.proofs.Added.{number_or, add_within, add_distinct, add_every}
+use Rattle.lists.proofs.Members.{some_not_none}
+use Rattle.lists.proofs.Places.{eqb_tells}
 use Rattle.model.specs.Calls.{with_assumptions}
 use Rattle.model.specs.Limits.{AssumptionsEntered}
 use Rattle.model.proofs.AssumeComesTo.{assume_unknown, assume_known}

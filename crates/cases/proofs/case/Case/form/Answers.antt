@@ -1,7 +1,7 @@
 -- Entering a formula leaves the assumptions entered and each refutation its run, and is what `form` says of the model.
 use Rattle.std.proofs.Common.{◌<◌, length, sym, ap, subst, arith}
 use Rattle.formulas.specs.Listed.{formulas_of}
-use Rattle.formulas.proofs.Added.{form_longer}
+use Rattle.formulas.proofs.Forming.{form_longer}
 use Rattle.model.specs.Calls.{form, with_formulas}
 use Rattle.model.specs.Describes.{Number}
 use Rattle.model.proofs.Exact.{form_exact}

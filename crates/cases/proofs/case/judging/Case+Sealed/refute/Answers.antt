@@ -5,8 +5,8 @@ use Rattle.std.proofs.lemmas.Bool.{leb-true, leb-false}
 use Rattle.std.proofs.lemmas.Result.{err_from_is_err_and}
 use Rattle.refusals.specs.declared.Refusal.TheVariants.{RefutationsFull}
 use Rattle.logic.specs.Run.{Run}
-use Rattle.formulas.proofs.Added.{number_new, after_new}
-use Rattle.formulas.proofs.Members.{every_push}
+use Rattle.lists.proofs.Added.{number_new, after_new}
+use Rattle.lists.proofs.Members.{every_push}
 use Rattle.model.specs.declared.refutation.Refutation.{Refutation}
 use Rattle.model.specs.Breaking.{Breaks, HaveRuns}
 use Rattle.model.specs.Judging.{with_refutations, refute, refute_scratch}

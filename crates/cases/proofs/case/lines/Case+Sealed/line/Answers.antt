@@ -4,8 +4,8 @@ use Rattle.std.specs.Option.{ok_or}
 use Rattle.std.proofs.lemmas.Bool.{leb-true, leb-false}
 use Rattle.std.proofs.lemmas.Result.{err_from_is_err_and}
 use Rattle.refusals.specs.declared.Refusal.TheVariants.{LinesFull}
-use Rattle.formulas.proofs.Added.{number_new, after_new}
-use Rattle.formulas.proofs.Members.{every_push}
+use Rattle.lists.proofs.Added.{number_new, after_new}
+use Rattle.lists.proofs.Members.{every_push}
 use Rattle.calculus.specs.declared.verdict.Verdict.TheVariants.{Admitted, NotAdmitted, BeyondLimit}
 use Rattle.model.specs.declared.line.Line.{Line}
 use Rattle.model.specs.Breaking.{LinesFollow}

@@ -1,12 +1,12 @@
-// A list whose memory is set aside once.
-ghost use Rattle.std.specs.Prelude.{◌≡◌, ◌<◌, ◌≤◌, [], length, take, None, IfOk, IfSome, nat_le};
+// A table: a list whose memory is set aside once.
+ghost use Rattle.std.specs.Prelude.{◌≡◌, ◌<◌, ◌≤◌, [], length, None, IfOk, IfSome, nat_le};
 ghost use Rattle.std.specs.List.{slice_get};
-ghost use Rattle.formulas.specs.Adding.{place, number_for, add_after};
+ghost use Rattle.lists.specs.Adding.{place, place_from, number_for, add_after};
 
 use std::alloc::{AllocError, Global};
 use std::marker::Model;
 
-// A table of at most `MOST` items. Each is found by its number, which it keeps.
+/// A table of at most `MOST` items. Each has a number from 0, which it keeps.
 #[derive(Drop)]
 pub struct Table<T, const MOST: u16> {
     items: Vec<T>,
@@ -24,7 +24,7 @@ impl<T, const MOST: u16> Model for Table<T, MOST> {
 }
 
 impl<T, const MOST: u16> Table<T, MOST> {
-    // An empty table, with memory for all that it will ever hold.
+    /// An empty table, with memory for all that it will ever hold; an error where memory is lacking.
     pub fn new(heap: Global) -> Result<Table<T, MOST>, AllocError>
         ensures { IfOk result (λ t. t ≡ []) }
     {
@@ -33,6 +33,7 @@ impl<T, const MOST: u16> Table<T, MOST> {
         })
     }
 
+    /// The items, by number, `MOST` at most.
     pub fn as_slice(&self) -> &[T]
         ensures items { result.now ≡ self.now }
         ensures within { length result.now ≤ MOST }
@@ -40,7 +41,7 @@ impl<T, const MOST: u16> Table<T, MOST> {
         self.items.as_slice()
     }
 
-    // Whether there is no room for one item more.
+    /// Whether there is no room for one more item.
     pub fn is_full(&self) -> bool
         ensures { result ≡ nat_le MOST (length self.now) }
     {
@@ -49,14 +50,14 @@ impl<T, const MOST: u16> Table<T, MOST> {
 }
 
 impl<T: Copy, const MOST: u16> Table<T, MOST> {
-    // The item with a number.
+    /// The item with a number, none past the last.
     pub fn get(&self, number: u16) -> Option<T>
         ensures { result ≡ slice_get self.now number }
     {
         self.items.get(usize::from(number)).copied()
     }
 
-    // Adds an item, and answers its number. None where the table is full.
+    /// Adds an item, and answers its number. None where the table is full.
     pub fn push(&mut self, item: T) -> Option<u16>
         ensures number { result ≡ number_for MOST self.old None }
         ensures after { self.new ≡ add_after MOST self.old item None }
@@ -79,41 +80,48 @@ fn first_equal<T: Copy + PartialEq>(items: &[T], item: T) -> Option<usize>
 }
 
 impl<T: Copy + PartialEq, const MOST: u16> Table<T, MOST> {
-    // The number of the first item that equals this one.
+    /// The number of the first item that equals this one, or none.
     pub fn find(&self, item: T) -> Option<usize>
         ensures number { result ≡ place T.eq self.now item }
         ensures within { IfSome result (λ n. n < MOST) }
     {
-        self.find_from(0, item)
+        first_equal(self.as_slice(), item)
     }
 
-    // The same, where no item below a number equals this one: those are not looked at.
+    // The same from a number on: no item below it is looked at.
     fn find_from(&self, start: usize, item: T) -> Option<usize>
-        requires there { start ≤ length self.now }
-        requires none_below { place T.eq (take start self.now) item ≡ None }
-        ensures number { result ≡ place T.eq self.now item }
+        ensures number { result ≡ place_from T.eq start self.now item }
         ensures within { IfSome result (λ n. n < MOST) }
     {
-        let behind = first_equal(&self.as_slice()[start..], item)?;
-        Some(start + behind)
+        let rest = self.as_slice().get(start..)?;
+        Some(start + first_equal(rest, item)?)
     }
 
-    // The number of the first item that equals this one, which is added if there is none. None where the table is full.
+    /// The number of the first item that equals this one, which is added if there is none. None where the table is full.
     pub fn enter(&mut self, item: T) -> Option<u16>
         ensures number { result ≡ number_for MOST self.old (place T.eq self.old item) }
         ensures after { self.new ≡ add_after MOST self.old item (place T.eq self.old item) }
     {
-        self.enter_from(0, item)
+        let found = self.find(item);
+        self.found_or_added(found, item)
     }
 
-    // The same, where no item below a number equals this one.
-    pub(crate) fn enter_from(&mut self, start: usize, item: T) -> Option<u16>
-        requires there { start ≤ length self.old }
-        requires none_below { place T.eq (take start self.old) item ≡ None }
-        ensures number { result ≡ number_for MOST self.old (place T.eq self.old item) }
-        ensures after { self.new ≡ add_after MOST self.old item (place T.eq self.old item) }
+    /// The same, where items below a number are not looked at.
+    pub fn enter_from(&mut self, start: usize, item: T) -> Option<u16>
+        ensures number { result ≡ number_for MOST self.old (place_from T.eq start self.old item) }
+        ensures after { self.new ≡ add_after MOST self.old item (place_from T.eq start self.old item) }
     {
-        match self.find_from(start, item) {
+        let found = self.find_from(start, item);
+        self.found_or_added(found, item)
+    }
+
+    // The number at which an item was found, or else that of one more.
+    fn found_or_added(&mut self, found: Option<usize>, item: T) -> Option<u16>
+        requires { IfSome found (λ n. n < MOST) }
+        ensures number { result ≡ number_for MOST self.old found }
+        ensures after { self.new ≡ add_after MOST self.old item found }
+    {
+        match found {
             Some(old) => Some(old as u16),
             None => self.push(item),
         }

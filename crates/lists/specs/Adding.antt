@@ -1,6 +1,7 @@
 -- Lists in which nothing stands twice, and how one is added to.
-use Rattle.std.specs.Prelude.{◌≡◌, ℕ, ◌<◌, Bool, cond, List, [], ◌∷◌, ◌++◌, length, Some, None, Ok, Err, Option, Result, ◌≢◌, nat_lt}
+use Rattle.std.specs.Prelude.{◌≡◌, ℕ, ◌+◌, ◌<◌, Bool, cond, List, [], ◌∷◌, ◌++◌, length, drop, Some, None, Ok, Err, Option, Result, ◌≢◌, nat_lt}
 use Rattle.std.specs.List.{slice_get, position}
+use Rattle.std.specs.Option.{option_map}
 
 -- no two members are equal
 abbrev pub Distinct : {X : Type 0} → List X → Type 0
@@ -13,6 +14,10 @@ Member xs x = (n : ℕ) × (slice_get xs n ≡ Some x)
 -- where x first stands, by a test of likeness
 abbrev pub place : {X : Type 0} → (X → X → Bool) → List X → X → Option ℕ
 place alike xs x = position (λ y. alike y x) xs
+
+-- the same from a number on
+abbrev pub place_from : {X : Type 0} → (X → X → Bool) → ℕ → List X → X → Option ℕ
+place_from alike start xs x = option_map (λ k. start + k) (place alike (drop start xs) x)
 
 -- the answer for what stands at a place already, or nowhere: its place, else the next one, or a refusal where the list is full
 abbrev pub add_answer : {X E : Type 0} → ℕ → E → List X → Option ℕ → Result ℕ E

@@ -1,19 +1,23 @@
 -- Where something stands in a list, by a test of likeness that is equality.
-use Rattle.std.proofs.Common.{◌≡◌, ℕ, ◌+◌, ◌-◌, ◌<◌, ◌≤◌, Bool, true, false, ltb, List, length, take, drop, get_or, Some, None, Option, sym, ap, ◌∙◌, subst, inl, inr, arith}
+use Rattle.std.proofs.Common.{◌≡◌, ℕ, ◌+◌, ◌-◌, ◌<◌, ◌≤◌, Bool, true, false, eqb, ltb, List, length, take, drop, get_or, Some, None, Option, refl, sym, ap, ◌∙◌, subst, inl, inr, arith}
 use Rattle.std.specs.List.{slice_get, position, position_or_len}
 use Rattle.std.specs.Option.{option_map}
-use Rattle.std.proofs.lemmas.Bool.{cases_Bool, cases_lt, cond-true, cond-false, lt-ltb, le-ltb, true≢false}
+use Rattle.std.proofs.lemmas.Bool.{cases_Bool, cases_lt, cond-true, cond-false, lt-ltb, le-ltb, eqb-true, eq-eqb, true≢false}
 use Rattle.std.proofs.lemmas.List.Quantifiers.{position-Some}
 use Rattle.std.proofs.lemmas.List.Sums.{position_or_len_is, fails_before_first}
-use Rattle.std.proofs.lemmas.List.{get_or-take, get_or-drop, length-take-le, length-drop, take_all}
+use Rattle.std.proofs.lemmas.List.{get_or-take, get_or-drop, length-take-le, length-drop}
 use Rattle.std.proofs.lemmas.Option.{slice_get-get_or}
-use Rattle.formulas.specs.Adding.{Distinct, place}
-use Rattle.formulas.proofs.Members.{some_same, some_not_none, nth_within}
+use Rattle.lists.specs.Adding.{Distinct, place, place_from}
+use Rattle.lists.proofs.Members.{some_same, some_not_none, nth_within}
 
 -- the test is equality
 pub record IsEquality {X : Type 0} (eq : X → X → Bool) : Type 0 where
   pub sound : (x y : X) → eq x y ≡ true → x ≡ y
   pub itself : (x : X) → eq x x ≡ true
+
+-- as that of numbers
+pub eqb_tells : IsEquality eqb
+eqb_tells = record { sound = eqb-true; itself = λ n. eq-eqb n n refl }
 
 module _ {X : Type 0} (eq : X → X → Bool) (tells : IsEquality eq) where
   differ : (x y : X) → (x ≡ y → ⊥) → eq x y ≡ false
@@ -74,7 +78,7 @@ found_at p xs i within at = cond-true (ltb (position_or_len p xs) (length xs)) _
 found_nowhere : {X : Type 0} (p : X → Bool) (xs : List X) → position_or_len p xs ≡ length xs → position p xs ≡ None
 found_nowhere p xs at = cond-false (ltb (position_or_len p xs) (length xs)) _ _ (le-ltb _ _ (omega (arith, at)))
 
--- where none passes below a place, the first is found behind it
+-- where none passes below a number, the first is found from there on
 module _ {X : Type 0} (p : X → Bool) (xs : List X) (start : ℕ) (d : X) (there : start ≤ length xs) (none : position p (take start xs) ≡ None) where
   abbrev rest : List X
   rest = drop start xs
@@ -95,23 +99,21 @@ module _ {X : Type 0} (p : X → Bool) (xs : List X) (start : ℕ) (d : X) (ther
   long : start + length rest ≡ length xs
   long = omega (arith, length-drop start xs, there)
 
-  position_behind : (o : Option ℕ) → position p rest ≡ o → position p xs ≡ option_map (λ k. start + k) o
-  position_behind None is =
+  position_from : (o : Option ℕ) → position p rest ≡ o → position p xs ≡ option_map (λ k. start + k) o
+  position_from None is =
       found_nowhere p xs
       (position_or_len_is p xs (length xs) d (omega arith)
       (λ k h. fails_up_to (length rest) (λ j l. fails_before_first p rest j d (omega (arith, past_all p rest is))) k (omega (arith, long)))
       (λ h. absurd (omega arith)))
-  position_behind (Some i) is =
+  position_from (Some i) is =
       let (inside, passes, fails) = position-Some p rest i d is in
       found_at p xs (start + i) (omega (arith, long))
       (position_or_len_is p xs (start + i) d (omega (arith, long)) (fails_up_to i fails)
       (λ h. ap p (at_rest (start + i) (omega arith) ∙ ap (λ j. get_or rest j d) (omega arith)) ∙ passes))
 
-  -- the same, where what is behind is cut out of a list that is equal
-  pub position_cut : (ys : List X) → ys ≡ xs → (n : ℕ) → length ys ≤ start + n → (o : Option ℕ) → position p (take n (drop start ys)) ≡ o → position p xs ≡ option_map (λ k. start + k) o
-  position_cut ys same n all o is =
-      let whole : take n (drop start ys) ≡ rest = ap (λ zs. take n (drop start zs)) same ∙ take_all n rest (omega (arith, long, all, ap length same)) in
-      position_behind o (ap (position p) (sym whole) ∙ is)
+-- where none below a number is x, x is found from there on
+pub place_from_is : {X : Type 0} (eq : X → X → Bool) (xs : List X) (start : ℕ) (x : X) → start ≤ length xs → place eq (take start xs) x ≡ None → place_from eq start xs x ≡ place eq xs x
+place_from_is eq xs start x there none = sym (position_from (λ y. eq y x) xs start x there none (place eq (drop start xs) x) refl)
 
 -- two tests that are both equality find the same place
 pub same_place : {X : Type 0} (e f : X → X → Bool) → IsEquality e → IsEquality f → (ys : List X) (x : X) → place e ys x ≡ place f ys x

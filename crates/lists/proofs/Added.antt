@@ -4,14 +4,9 @@ use Rattle.std.specs.List.{slice_get}
 use Rattle.std.specs.Option.{ok_or}
 use Rattle.std.proofs.lemmas.List.{length_push}
 use Rattle.std.proofs.lemmas.Bool.{cond_both, cond-true, ltb-true, lt-ltb}
-use Rattle.refusals.specs.declared.Refusal.{Refusal}
-use Rattle.logic.specs.Formula.{Formula}
-use Rattle.formulas.specs.declared.entry.Entry.{Entry}
-use Rattle.formulas.specs.Adding.{Distinct, place, number_for, add_answer, add_after}
-use Rattle.formulas.specs.Entries.{asked}
-use Rattle.formulas.specs.Forming.{after_for, form_after}
-use Rattle.formulas.proofs.Members.{distinct_push, every_push}
-use Rattle.formulas.proofs.Places.{IsEquality, none_there}
+use Rattle.lists.specs.Adding.{Distinct, place, number_for, add_answer, add_after}
+use Rattle.lists.proofs.Members.{distinct_push, every_push}
+use Rattle.lists.proofs.Places.{IsEquality, none_there}
 
 -- no list gets shorter
 pub add_longer : {X : Type 0} (most : ℕ) (xs : List X) (x : X) (o : Option ℕ) → length xs ≤ length (add_after most xs x o)
@@ -24,14 +19,6 @@ pub add_within : {X : Type 0} (most : ℕ) (xs : List X) (x : X) (o : Option ℕ
 add_within most xs x (Some i) few = few
 add_within most xs x None few =
     cond_both (ltb (length xs) most) (xs ++ x ∷ []) xs (λ ys. length ys ≤ most) (λ room. omega (arith, length_push xs x, ltb-true (length xs) most room)) (λ _. few)
-
-pub form_longer : (fs : List Formula) (kind left right : ℕ) → length fs ≤ length (form_after fs kind left right)
-unfolding form_after
-form_longer fs kind left right = longer (asked (length fs) kind left right)
-  where
-    longer : (r : Result Entry Refusal) → length fs ≤ length (after_for fs r)
-    longer (Ok e) = add_longer 1024 fs _ _
-    longer (Err x) = omega arith
 
 -- what is new has the next number in a list that has room, and stands at its end
 pub number_new : {X : Type 0} (most : ℕ) (xs : List X) → length xs < most → number_for most xs None ≡ Some (length xs)

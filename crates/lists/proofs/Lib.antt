@@ -1,0 +1,4 @@
+pub mod Members
+pub mod Places
+pub mod Added
+pub mod Growing
