@@ -3,7 +3,7 @@ use Rattle.std.proofs.Common.{◌≡◌, ℕ, ◌<◌, ◌≤◌, true, false, �
 use lib.Dec
 use Rattle.std.specs.Option.{option_map}
 use Rattle.std.proofs.lemmas.Option.{slice_get_past}
-use Rattle.std.proofs.lemmas.Bool.{cond-true, cond-false, lt-ltb, le-ltb, and_from, and_left, and_right, cases_lt}
+use Rattle.std.proofs.lemmas.Bool.{cond-true, cond-false, lt-ltb, le-ltb, le-leb, lt-leb, and_from, and_left, and_right, cases_lt}
 use Rattle.refusals.specs.declared.Refusal.{Refusal}
 use Rattle.refusals.specs.declared.Refusal.TheVariants.{NotEntered, LineNotHeld, LinesFull}
 use Rattle.logic.specs.Formula.{Formula}
@@ -19,8 +19,7 @@ use Rattle.model.specs.Case.{Case}
 use Rattle.model.specs.Calls.{unchanged}
 use Rattle.model.specs.Lines.{place_held, premise, line_verdict, line_by, line}
 use Rattle.model.specs.Limits.{LinesEntered}
-use Rattle.model.proofs.LineChanges.{Allowed}
-use Rattle.model.proofs.LineComesTo.{line_unknown, line_unplaced, line_full, line_judged_as}
+use Rattle.model.proofs.LineGoes.{Allowed, line_unknown, line_unplaced, line_full, line_judged_as}
 use Rattle.cases.specs.Asking.{premise_number, asked_with, question_for}
 
 module _ (c : Case) where
@@ -49,10 +48,10 @@ module _ (c : Case) where
 
   module _ (l : Line) where
     pub question_unknown : length c.formulas ≤ l.formula → question_for c l ≡ Err NotEntered
-    question_unknown past = cond-false (Dec.ltb l.formula (length c.formulas)) _ (Err NotEntered) (le-ltb l.formula (length c.formulas) past)
+    question_unknown past = cond-true (Dec.leb (length c.formulas) l.formula) _ _ (le-leb (length c.formulas) l.formula past)
 
     pub question_known : l.formula < length c.formulas → question_for c l ≡ asked_with l (premise_number c l.first) (premise_number c l.second)
-    question_known known = cond-true (Dec.ltb l.formula (length c.formulas)) _ (Err NotEntered) (lt-ltb l.formula (length c.formulas) known)
+    question_known known = cond-false (Dec.leb (length c.formulas) l.formula) _ _ (lt-leb (length c.formulas) l.formula known)
 
     -- the question is for the line's own formulas
     pub record Asked (q : Question) : Type 0 where
@@ -119,4 +118,4 @@ module _ (c : Case) where
         pub asked_allowed : line_verdict c page l ≡ Admitted → Allowed c page l
         asked_allowed admitted =
             let a = question_asked q is in
-            record { entered = a.known; first = a.first.held; second = a.second.held; room = room; admitted = admitted }
+            record { entered = a.known; placed = a.placed; room = room; admitted = admitted }

@@ -1,5 +1,5 @@
 -- What a page is asked about a line of a case.
-use Rattle.std.specs.Prelude.{ℕ, cond, length, Some, None, Ok, Err, Option, Result, nat_lt}
+use Rattle.std.specs.Prelude.{ℕ, if◌then◌else◌, length, Some, None, Ok, Err, Option, Result, nat_le}
 use Rattle.refusals.specs.declared.Refusal.{Refusal}
 use Rattle.refusals.specs.declared.Refusal.TheVariants.{NotEntered}
 use Rattle.rules.specs.declared.page.Question.{Question}
@@ -25,4 +25,6 @@ asked_with l (Ok p) (Ok q) = Ok (record { rule = l.rule; conclusion = l.formula;
 
 -- the question for a line, or the refusal that stops it
 abbrev pub question_for : Case → Line → Result Question Refusal
-question_for c l = cond (nat_lt l.formula (length c.formulas)) (asked_with l (premise_number c l.first) (premise_number c l.second)) (Err NotEntered)
+question_for c l =
+    if nat_le (length c.formulas) l.formula then Err NotEntered
+    else asked_with l (premise_number c l.first) (premise_number c l.second)

@@ -7,7 +7,12 @@ use Rattle.cases.specs.declared.stage.sealed.Sealed.{Sealed}
 
 -- its formulas and assumptions, and what it holds at its stage
 unfoldable pub modelled : {S : Type 0} {stage : _} → declared.Case S stage → Case
-modelled {stage = stage} c = record { formulas = formulas_of c.formulas; assumptions = c.assumptions; lines = stage.held_lines c.stage; refutations = stage.held_refutations c.stage }
+modelled {stage = stage} c = record {
+  formulas = formulas_of c.formulas;
+  assumptions = c.assumptions;
+  lines = (stage.held c.stage).lines;
+  refutations = (stage.held c.stage).refutations;
+}
 
 -- that of a case at a given stage
 abbrev pub opened : {stage : _} → declared.Case Open stage → Case

@@ -18,8 +18,7 @@ mod reading;
 // The most assumptions that a case takes.
 const ASSUMPTIONS: u16 = 16;
 
-// Contracts name the model that it stands for by `modelled`. With an `impl Model` they could name the case itself, but for
-// that one has to define how any two models, and so any two formulas, are told apart: that is longer than what it saves.
+/// A case at a stage. Contracts name the model that it stands for by `modelled`.
 #[derive(Drop)]
 pub struct Case<S: Stage> {
     formulas: FormulaList,
@@ -29,13 +28,15 @@ pub struct Case<S: Stage> {
     ghost within: { length assumptions ≤ 16 },
     ghost distinct: { Distinct assumptions },
     ghost entered: { AssumptionsEntered (formulas_of formulas) assumptions },
-    ghost stated: { LinesEntered (formulas_of formulas) (S.held_lines stage) },
-    ghost follow: { LinesFollow (formulas_of formulas) assumptions (S.held_lines stage) },
-    ghost have_runs: { HaveRuns (formulas_of formulas) assumptions (S.held_refutations stage) },
+    ghost stated: { LinesEntered (formulas_of formulas) (S.held stage).lines },
+    ghost follow: { LinesFollow (formulas_of formulas) assumptions (S.held stage).lines },
+    ghost have_runs: { HaveRuns (formulas_of formulas) assumptions (S.held stage).refutations },
 }
 
+/// A case that takes formulas and assumptions, and holds nothing yet.
 pub type OpenCase = Case<Open>;
 
+/// A case that takes formulas, lines and refutations, and no more assumptions.
 pub type SealedCase = Case<Sealed>;
 
 impl Case<Open> {
@@ -45,8 +46,8 @@ impl Case<Open> {
     ghost use Rattle.model.specs.Promises.{Promises};
     ghost use Rattle.cases.specs.Model.{modelled, opened, sealed};
 
-    // An empty case, with memory for all that it will ever hold.
-    // What every history of calls on it keeps is promised here.
+    /// An empty case, with memory for all that it will ever hold; an error where memory is lacking.
+    // what every history of calls on it keeps is promised here
     #[tactic(auto, using(model::proofs::Promises::promises), unfolding(crate::specs::Model::modelled))]
     pub fn new(heap: Global) -> Result<OpenCase, AllocError>
         ensures empty { IfOk result (λ c. opened c ≡ empty) }
@@ -62,7 +63,8 @@ impl Case<Open> {
         })
     }
 
-    // Assumes an entered formula, and answers its place.
+    /// Assumes an entered formula, and answers its place, from 0; the old place where it is assumed already.
+    /// Refuses, in this order: `NotEntered` (4); `AssumptionsFull` (5), where it is new and 16 are there.
     pub fn assume(&mut self, formula: u16) -> Result<u16, Refusal>
         ensures answer { result ≡ (assume (modelled self.old) formula).answer }
         ensures after { modelled self.new ≡ (assume (modelled self.old) formula).after }
@@ -75,7 +77,7 @@ impl Case<Open> {
             .ok_or(Refusal::AssumptionsFull)
     }
 
-    // The case takes no more assumptions.
+    /// The case at its second stage, which takes no more assumptions. It never refuses.
     pub fn seal(self) -> SealedCase
         ensures { sealed result ≡ opened self }
     {
@@ -97,12 +99,14 @@ impl<S: Stage> Case<S> {
     ghost use Rattle.model.specs.Calls.{form};
     ghost use Rattle.cases.specs.Model.{modelled};
 
-    // Enters a formula, by its kind and two fields, and answers its number. It takes three numbers and no `Entry`, since
-    // they come from a file, where they need not describe a formula.
+    /// Enters a formula, by its kind and two fields, and answers its number, from 0; the old number where it is there.
+    /// Refuses, by `Form` and in this order: `UnknownKind` (1), `BadField` (2); `FormulasFull` (3), where it is new and
+    /// 1,024 are entered.
+    // three numbers and no `Entry`, since they come from a file, where they need not describe a formula
     pub fn form(&mut self, kind: u8, left: u16, right: u16) -> Result<u16, Refusal>
         ensures answer { result ≡ (form (modelled self.old) kind left right).answer }
         ensures after { modelled self.new ≡ (form (modelled self.old) kind left right).after }
     {
-        self.formulas.form(kind, left, right)
+        Ok(self.formulas.form(kind, left, right)?)
     }
 }

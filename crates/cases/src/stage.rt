@@ -1,7 +1,6 @@
 // The stages of a case, and what a case holds at each of them.
-ghost use Rattle.std.specs.Prelude.{◌≡◌, ◌≤◌, List, length};
-ghost use Rattle.model.specs.declared.line.Line.{Line};
-ghost use Rattle.model.specs.declared.refutation.Refutation.{Refutation};
+ghost use Rattle.std.specs.Prelude.{◌≡◌, ◌≤◌, length};
+ghost use Rattle.cases.specs.Held.{Held};
 
 use model::{Line, Refutation};
 
@@ -11,25 +10,23 @@ mod sealed;
 pub use open::Open;
 pub use sealed::Sealed;
 
-// The most lines that a case holds.
+/// The most lines that a case holds.
 pub(crate) const LINES: u16 = 512;
 
-// The most refutations that a case holds.
+/// The most refutations that a case holds.
 pub(crate) const REFUTATIONS: u16 = 64;
 
-// What a case holds at its stage.
+/// What a case holds at its stage.
 pub trait Stage {
-    ghost held_lines: { Self → List Line };
+    ghost held: { Self → Held };
 
-    ghost held_refutations: { Self → List Refutation };
-
-    // The lines, by number.
+    /// The lines, by number; at most 512.
     fn lines(&self) -> &[Line]
-        ensures held { result.now ≡ held_lines self.now }
+        ensures held { result.now ≡ (held self.now).lines }
         ensures within { length result.now ≤ LINES };
 
-    // The refutations, by number.
+    /// The refutations, by number; at most 64.
     fn refutations(&self) -> &[Refutation]
-        ensures held { result.now ≡ held_refutations self.now }
+        ensures held { result.now ≡ (held self.now).refutations }
         ensures within { length result.now ≤ REFUTATIONS };
 }

@@ -10,28 +10,18 @@ const ASSUMPTION: u16 = 0;
 
 impl Case<Sealed> {
     ghost use Rattle.std.specs.Prelude.{◌≡◌, Ok};
-    ghost use Rattle.model.specs.Lines.{line, line_verdict, assumption_verdict};
+    ghost use Rattle.model.specs.Lines as lines;
+    ghost use Rattle.model.specs.Lines.{line_verdict, assumption_verdict};
     ghost use Rattle.cases.specs.Model.{sealed};
     ghost use Rattle.cases.specs.Asking.{premise_number, question_for};
 
-    // Holds a line that a page admits, or by rule 0 an assumption, and answers its number.
-    pub fn line<P: RulePage>(
-        &mut self,
-        page: &P,
-        rule: u16,
-        formula: u16,
-        first: Option<u16>,
-        second: Option<u16>,
-    ) -> Result<u16, Refusal>
-        ensures answer { result ≡ (line (sealed self.old) (P.RulePage.meaning page.now) (record { rule = rule; formula = formula; first = first; second = second })).answer }
-        ensures after { sealed self.new ≡ (line (sealed self.old) (P.RulePage.meaning page.now) (record { rule = rule; formula = formula; first = first; second = second })).after }
+    /// Holds a line that a page admits, or by rule 0 an assumption, and answers its number, from 0.
+    /// Refuses, in this order: `NotEntered` (4); `LineNotHeld` (6), of a place; `LinesFull` (7), where 512 are held;
+    /// `BeyondLimit` (9) and `NotAdmitted` (8), as the page says, or 8 by rule 0 of what is no assumption.
+    pub fn line<P: RulePage>(&mut self, page: &P, line: Line) -> Result<u16, Refusal>
+        ensures answer { result ≡ (lines.line (sealed self.old) (P.meaning page.now) line).answer }
+        ensures after { sealed self.new ≡ (lines.line (sealed self.old) (P.meaning page.now) line).after }
     {
-        let line = Line {
-            rule,
-            formula,
-            first,
-            second,
-        };
         let question = self.question(line)?;
         if self.stage.lines.is_full() {
             return Err(Refusal::LinesFull);
@@ -72,7 +62,7 @@ impl Case<Sealed> {
     // The verdict on a line. The page is not asked about the rule that is the case's own.
     fn verdict<P: RulePage>(&self, page: &P, line: Line, question: Question) -> Verdict
         requires { question_for (sealed self.now) line ≡ Ok question }
-        ensures { result ≡ line_verdict (sealed self.now) (P.RulePage.meaning page.now) line }
+        ensures { result ≡ line_verdict (sealed self.now) (P.meaning page.now) line }
     {
         if line.rule == ASSUMPTION {
             self.assumption_verdict(line)

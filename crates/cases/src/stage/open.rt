@@ -5,7 +5,7 @@ use crate::stage::{LINES, REFUTATIONS, Stage};
 use lists::Table;
 use model::{Line, Refutation};
 
-// It holds nothing, and has set memory aside for what it holds once it is sealed.
+/// It holds nothing, and has set memory aside for what the case holds once it is sealed.
 #[derive(Drop)]
 pub struct Open {
     pub(crate) lines: Table<Line, LINES>,
@@ -15,14 +15,16 @@ pub struct Open {
 }
 
 impl Stage for Open {
-    ghost held_lines = { λ _. [] };
+    ghost use Rattle.cases.specs.Held.{nothing_held};
 
-    ghost held_refutations = { λ _. [] };
+    ghost held = { λ _. nothing_held };
 
+    /// None.
     fn lines(&self) -> &[Line] {
         &[]
     }
 
+    /// None.
     fn refutations(&self) -> &[Refutation] {
         &[]
     }

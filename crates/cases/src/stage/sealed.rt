@@ -3,6 +3,7 @@ use crate::stage::{LINES, REFUTATIONS, Stage};
 use lists::Table;
 use model::{Line, Refutation};
 
+/// It holds lines and refutations.
 #[derive(Drop)]
 pub struct Sealed {
     pub(crate) lines: Table<Line, LINES>,
@@ -10,9 +11,7 @@ pub struct Sealed {
 }
 
 impl Stage for Sealed {
-    ghost held_lines = { λ stage. stage.lines };
-
-    ghost held_refutations = { λ stage. stage.refutations };
+    ghost held = { λ stage. record { lines = stage.lines; refutations = stage.refutations } };
 
     fn lines(&self) -> &[Line] {
         self.lines.as_slice()

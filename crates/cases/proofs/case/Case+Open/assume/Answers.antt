@@ -7,7 +7,6 @@ use Rattle.formulas.specs.Listed.{formulas_of}
 use Rattle.lists.proofs.Added.{number_or, add_within, add_distinct, add_every}
 use Rattle.lists.proofs.Members.{some_not_none}
 use Rattle.lists.proofs.Places.{eqb_tells}
-use Rattle.model.specs.Calls.{with_assumptions}
 use Rattle.model.specs.Limits.{AssumptionsEntered}
 use Rattle.model.proofs.AssumeComesTo.{assume_unknown, assume_known}
 use Rattle.cases.specs.Model.{modelled}
@@ -41,5 +40,5 @@ returns c =
     let e = assume_known (modelled s) c.args.formula (omega arith) in
     record {
       answer = c.ok_or.ensures.value ∙ ap (λ o. ok_or o AssumptionsFull) c.enter.ensures.number ∙ number_or 16 AssumptionsFull s.assumptions _ ∙ answer_of e;
-      after = ap (with_assumptions (modelled s)) c.enter.ensures.after ∙ after_of e;
+      after = ap (λ ks. record (modelled s) { assumptions = ks }) c.enter.ensures.after ∙ after_of e;
     }

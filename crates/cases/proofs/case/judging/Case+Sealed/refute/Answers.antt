@@ -9,8 +9,8 @@ use Rattle.lists.proofs.Added.{number_new, after_new}
 use Rattle.lists.proofs.Members.{every_push}
 use Rattle.model.specs.declared.refutation.Refutation.{Refutation}
 use Rattle.model.specs.Breaking.{Breaks, HaveRuns}
-use Rattle.model.specs.Judging.{with_refutations, refute, refute_scratch}
-use Rattle.model.proofs.RefuteChanges.{judged_breaks}
+use Rattle.model.specs.Judging.{refute, refute_scratch}
+use Rattle.model.proofs.Refuted.{judged_breaks}
 use Rattle.model.proofs.RefuteComesTo.{refute_full, scratch_full, refute_judged, scratch_judged}
 use Rattle.model.proofs.Scratch.{judgeable}
 use Rattle.cases.specs.Model.{modelled}
@@ -82,6 +82,6 @@ returns g c =
     let e = refute_judged m run c.args.formula c.args.position room (length c.args.scratch.now) passed (Ok tt) (sym judged.answer) in
     record {
       answer = c.ok_or.ensures.value ∙ ap (λ o. ok_or o RefutationsFull) (c.push.ensures.number ∙ number_new 64 m.refutations room) ∙ answer_of e;
-      after = ap (with_refutations m) (c.push.ensures.after ∙ after_new 64 m.refutations x room) ∙ after_of e;
+      after = ap (λ ys. record m { refutations = ys }) (c.push.ensures.after ∙ after_new 64 m.refutations x room) ∙ after_of e;
       words = judged.words ∙ sym (scratch_judged m run c.args.formula c.args.position room c.args.scratch.now passed);
     }
