@@ -2,7 +2,7 @@
 use crate::derivation::{By, Derivation, Numbered};
 use crate::formula::{Formula, form, implies};
 use anyhow::{anyhow, bail};
-use cases::{OpenCase, SealedCase};
+use cases::{Line, OpenCase, SealedCase};
 use formulas::Entry;
 use refusals::Refusal;
 use rules::{RulePage, numbers};
@@ -175,7 +175,13 @@ impl<P: RulePage> Entering<'_, P> {
         second: Option<u16>,
     ) -> anyhow::Result<u16> {
         let due = self.case.counts().lines;
-        let number = accepted(self.case.line(self.page, rule, formula, first, second))?;
+        let line = Line {
+            rule,
+            formula,
+            first,
+            second,
+        };
+        let number = accepted(self.case.line(self.page, line))?;
         if usize::from(number) != due {
             bail!("held as {number}, and due as {due}");
         }

@@ -55,17 +55,7 @@ module _ (es : List Entry) (low : Lower es) where
 -- two entries with one formula are one, if that holds of their operands
 pub of_entry_injective : (at : ℕ → Formula) (i j : ℕ) (m n : Entry) → placed i m ≡ true → placed j n ≡ true → ((a b : ℕ) → a < i → b < j → at a ≡ at b → a ≡ b) → of_entry at m ≡ of_entry at n → m ≡ n
 of_entry_injective at i j False False p q h e = refl
-of_entry_injective at i j False (Atom b) p q h e = cc
-of_entry_injective at i j False (Implies b d) p q h e = cc
-of_entry_injective at i j False (Next b) p q h e = cc
-of_entry_injective at i j False (Always b) p q h e = cc
-of_entry_injective at i j (Atom a) False p q h e = cc
 of_entry_injective at i j (Atom a) (Atom b) p q h e = let k : a ≡ b = cc in ap Atom k
-of_entry_injective at i j (Atom a) (Implies b d) p q h e = cc
-of_entry_injective at i j (Atom a) (Next b) p q h e = cc
-of_entry_injective at i j (Atom a) (Always b) p q h e = cc
-of_entry_injective at i j (Implies a c) False p q h e = cc
-of_entry_injective at i j (Implies a c) (Atom b) p q h e = cc
 of_entry_injective at i j (Implies a c) (Implies b d) p q h e =
     let s = and_parts (ltb a i) (ltb c i) p in
     let t = and_parts (ltb b j) (ltb d j) q in
@@ -74,18 +64,9 @@ of_entry_injective at i j (Implies a c) (Implies b d) p q h e =
     let k = h a b (ltb-true a i s.0) (ltb-true b j t.0) u in
     let l = h c d (ltb-true c i s.1) (ltb-true d j t.1) v in
     λ x. Implies (k x) (l x)
-of_entry_injective at i j (Implies a c) (Next b) p q h e = cc
-of_entry_injective at i j (Implies a c) (Always b) p q h e = cc
-of_entry_injective at i j (Next a) False p q h e = cc
-of_entry_injective at i j (Next a) (Atom b) p q h e = cc
-of_entry_injective at i j (Next a) (Implies b d) p q h e = cc
 of_entry_injective at i j (Next a) (Next b) p q h e = let u : at a ≡ at b = cc in ap Next (h a b (ltb-true a i p) (ltb-true b j q) u)
-of_entry_injective at i j (Next a) (Always b) p q h e = cc
-of_entry_injective at i j (Always a) False p q h e = cc
-of_entry_injective at i j (Always a) (Atom b) p q h e = cc
-of_entry_injective at i j (Always a) (Implies b d) p q h e = cc
-of_entry_injective at i j (Always a) (Next b) p q h e = cc
 of_entry_injective at i j (Always a) (Always b) p q h e = let u : at a ≡ at b = cc in ap Always (h a b (ltb-true a i p) (ltb-true b j q) u)
+of_entry_injective at i j m n p q h e = cc
 
 nth_same : (es : List Entry) (i j : ℕ) → i < length es → j < length es → get_or es i False ≡ get_or es j False → slice_get es i ≡ slice_get es j
 nth_same es i j h l e = slice_get-get_or es i False h ∙ ap Some e ∙ sym (slice_get-get_or es j False l)

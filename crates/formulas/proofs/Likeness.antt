@@ -15,34 +15,15 @@ entry_eq = eq-value.it
 
 entry_sound : (e f : Entry) → entry_eq e f ≡ true → e ≡ f
 entry_sound False False h = refl
-entry_sound False (Atom c) h = absurd (false≢true h)
-entry_sound False (Implies c d) h = absurd (false≢true h)
-entry_sound False (Next c) h = absurd (false≢true h)
-entry_sound False (Always c) h = absurd (false≢true h)
-entry_sound (Atom a) False h = absurd (false≢true h)
 entry_sound (Atom a) (Atom c) h = ap Atom (eqb-true a c h)
-entry_sound (Atom a) (Implies c d) h = absurd (false≢true h)
-entry_sound (Atom a) (Next c) h = absurd (false≢true h)
-entry_sound (Atom a) (Always c) h = absurd (false≢true h)
-entry_sound (Implies a b) False h = absurd (false≢true h)
-entry_sound (Implies a b) (Atom c) h = absurd (false≢true h)
 entry_sound (Implies a b) (Implies c d) h =
     let p = and_parts (eqb a c) (eqb b d) h in
     let l = eqb-true a c p.0 in
     let r = eqb-true b d p.1 in
     λ i. Implies (l i) (r i)
-entry_sound (Implies a b) (Next c) h = absurd (false≢true h)
-entry_sound (Implies a b) (Always c) h = absurd (false≢true h)
-entry_sound (Next a) False h = absurd (false≢true h)
-entry_sound (Next a) (Atom c) h = absurd (false≢true h)
-entry_sound (Next a) (Implies c d) h = absurd (false≢true h)
 entry_sound (Next a) (Next c) h = ap Next (eqb-true a c h)
-entry_sound (Next a) (Always c) h = absurd (false≢true h)
-entry_sound (Always a) False h = absurd (false≢true h)
-entry_sound (Always a) (Atom c) h = absurd (false≢true h)
-entry_sound (Always a) (Implies c d) h = absurd (false≢true h)
-entry_sound (Always a) (Next c) h = absurd (false≢true h)
 entry_sound (Always a) (Always c) h = ap Always (eqb-true a c h)
+entry_sound e f h = absurd (false≢true h)
 
 entry_itself : (e : Entry) → entry_eq e e ≡ true
 entry_itself False = refl

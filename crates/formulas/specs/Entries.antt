@@ -1,5 +1,5 @@
 -- Entries of a formula list: one formula each, with the numbers of earlier entries as operands.
-use Rattle.std.specs.Prelude.{◌≡◌, ℕ, ◌<◌, Bool, true, cond, ◌&&◌, List, length, Ok, Err, Result, ◌==◌, nat_le, nat_lt, slice_index_or}
+use Rattle.std.specs.Prelude.{◌≡◌, ℕ, ◌<◌, Bool, true, if◌then◌else◌, ◌&&◌, List, length, Ok, Err, Result, ◌==◌, nat_le, nat_lt, slice_index_or}
 use Rattle.formulas.specs.declared.refusal.FormRefusal.{FormRefusal}
 use Rattle.formulas.specs.declared.refusal.FormRefusal.TheVariants.{UnknownKind, BadField}
 use Rattle.formulas.specs.declared.entry.Entry.{Entry}
@@ -23,11 +23,8 @@ left_of (Next a) = a
 left_of (Always a) = a
 
 abbrev pub right_of : Entry → ℕ
-right_of False = 0
-right_of (Atom a) = 0
 right_of (Implies a b) = b
-right_of (Next a) = 0
-right_of (Always a) = 0
+right_of e = 0
 
 -- two entries are alike that have one kind and the same two fields
 abbrev pub alike : Entry → Entry → Bool
@@ -44,26 +41,26 @@ placed n (Always a) = nat_lt a n
 -- the kind with a number
 abbrev pub kind_numbered : ℕ → Result Kind FormRefusal
 kind_numbered n =
-    cond (n == 0) (Ok kinds.False)
-    (cond (n == 1) (Ok kinds.Atom)
-    (cond (n == 2) (Ok kinds.Implies)
-    (cond (n == 3) (Ok kinds.Next)
-    (cond (n == 4) (Ok kinds.Always)
-    (Err UnknownKind)))))
+    if n == 0 then Ok kinds.False
+    else if n == 1 then Ok kinds.Atom
+    else if n == 2 then Ok kinds.Implies
+    else if n == 3 then Ok kinds.Next
+    else if n == 4 then Ok kinds.Always
+    else Err UnknownKind
 
 -- an entry whose unused fields are 0, if it may stand there
 abbrev pub when_placed : ℕ → Entry → Bool → Result Entry FormRefusal
-when_placed n e unused = cond (unused && placed n e) (Ok e) (Err BadField)
+when_placed n e unused = if unused && placed n e then Ok e else Err BadField
 
 -- the entry that a kind and two fields ask for where n are entered
 abbrev pub asked : ℕ → ℕ → ℕ → ℕ → Result Entry FormRefusal
 asked n kind left right =
-    cond (kind == 0) (when_placed n False (left == 0 && right == 0))
-    (cond (kind == 1) (when_placed n (Atom left) (right == 0))
-    (cond (kind == 2) (when_placed n (Implies left right) true)
-    (cond (kind == 3) (when_placed n (Next left) (right == 0))
-    (cond (kind == 4) (when_placed n (Always left) (right == 0))
-    (Err UnknownKind)))))
+    if kind == 0 then when_placed n False (left == 0 && right == 0)
+    else if kind == 1 then when_placed n (Atom left) (right == 0)
+    else if kind == 2 then when_placed n (Implies left right) true
+    else if kind == 3 then when_placed n (Next left) (right == 0)
+    else if kind == 4 then when_placed n (Always left) (right == 0)
+    else Err UnknownKind
 
 -- each entry stands behind its operands
 abbrev pub Lower : List Entry → Type 0

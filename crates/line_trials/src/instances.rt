@@ -1,6 +1,7 @@
 // One instance of each rule, asked for with every choice of places and under other rules' numbers.
 use crate::connectives::{always, and, atom, eventually, iff, implies, next, not};
 use crate::pages::NothingPage;
+use crate::samples::by_rule;
 use cases::{OpenCase, SealedCase};
 use refusals::Refusal;
 use rules::{DerivedPage, PublishedPage, RulePage};
@@ -50,7 +51,7 @@ fn six_lines(heap: Global) -> Result<SealedCase, Fail> {
     }
     let mut case = case.seal();
     for formula in assumed {
-        case.line(&PublishedPage, 0, formula, None, None)?;
+        case.line(&PublishedPage, by_rule(0, formula, None, None))?;
     }
     Ok(case)
 }
@@ -124,7 +125,7 @@ fn is_held_there_alone<P: RulePage>(
     let mut as_due = true;
     for first in PLACES {
         for second in PLACES {
-            let answer = case.line(page, rule, formula, first, second);
+            let answer = case.line(page, by_rule(rule, formula, first, second));
             as_due &= if first == right_first && second == right_second {
                 answer.is_ok()
             } else {
@@ -140,7 +141,7 @@ fn is_never_held<P: RulePage>(case: &mut SealedCase, page: &P, rule: u16, formul
     let mut refused = true;
     for first in PLACES {
         for second in PLACES {
-            let answer = case.line(page, rule, formula, first, second);
+            let answer = case.line(page, by_rule(rule, formula, first, second));
             refused &= answer == Err(Refusal::NotAdmitted);
         }
     }
@@ -238,7 +239,7 @@ fn is_by_its_rule_alone(case: &mut SealedCase, (right, formula, first, second): 
     let mut refused = true;
     for rule in (0..32).chain([65535]) {
         if rule != right {
-            let answer = case.line(&DERIVED_PAGE, rule, formula, first, second);
+            let answer = case.line(&DERIVED_PAGE, by_rule(rule, formula, first, second));
             refused &= answer == Err(Refusal::NotAdmitted);
         }
     }
@@ -286,7 +287,7 @@ fn induction_on_next(case: &mut SealedCase) -> Result<u16, Fail> {
 fn one_line_may_be_both_premises(rt: HostRuntime) -> Result<(), Fail> {
     let mut case = six_lines(rt.alloc())?;
     let induction = induction_on_next(&mut case)?;
-    let held = case.line(&PublishedPage, 7, induction, Some(2), Some(2));
+    let held = case.line(&PublishedPage, by_rule(7, induction, Some(2), Some(2)));
     assert_eq!(rt; held, Ok(6));
     Ok(())
 }

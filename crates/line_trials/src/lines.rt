@@ -1,7 +1,7 @@
 // Lines that are held, and what is read of them.
 use crate::connectives::next;
 use crate::pages::{NothingPage, TautPage};
-use crate::samples::{NOTHING, ONCE, carry, derived};
+use crate::samples::{NOTHING, ONCE, by_rule, carry, derived};
 use cases::{Line, OpenCase, Standing};
 use refusals::Refusal;
 use rules::PublishedPage;
@@ -12,9 +12,12 @@ use std::test::Fail;
 #[test]
 fn lines_are_held(rt: HostRuntime) -> Result<(), Fail> {
     let mut case = carry(rt.alloc())?;
-    assert_eq!(rt; case.line(&PublishedPage, 1, 3, None, None), Ok(0));
-    assert_eq!(rt; case.line(&PublishedPage, 0, 2, None, None), Ok(1));
-    assert_eq!(rt; case.line(&PublishedPage, 7, 5, Some(0), Some(1)), Ok(2));
+    assert_eq!(rt; case.line(&PublishedPage, by_rule(1, 3, None, None)), Ok(0));
+    assert_eq!(rt; case.line(&PublishedPage, by_rule(0, 2, None, None)), Ok(1));
+    assert_eq!(rt;
+        case.line(&PublishedPage, by_rule(7, 5, Some(0), Some(1))),
+        Ok(2)
+    );
     let induction = Line {
         rule: 7,
         formula: 5,
@@ -31,7 +34,10 @@ fn lines_are_held(rt: HostRuntime) -> Result<(), Fail> {
 #[test]
 fn lines_are_held_twice(rt: HostRuntime) -> Result<(), Fail> {
     let mut case = derived(rt.alloc())?;
-    assert_eq!(rt; case.line(&PublishedPage, 7, 5, Some(0), Some(1)), Ok(3));
+    assert_eq!(rt;
+        case.line(&PublishedPage, by_rule(7, 5, Some(0), Some(1))),
+        Ok(3)
+    );
     assert_eq!(rt; case.held_line(3), case.held_line(2));
     assert_eq!(rt; case.standing(5), Ok(Standing::Derived(2)));
     Ok(())
@@ -44,12 +50,12 @@ fn refused_lines_change_nothing(rt: HostRuntime) -> Result<(), Fail> {
     let before = case.counts();
     for (rule, formula, first) in [(1, 6, None), (6, 5, Some(3)), (1, 5, None), (0, 3, None)] {
         assert!(rt;
-            case.line(&PublishedPage, rule, formula, first, None)
+            case.line(&PublishedPage, by_rule(rule, formula, first, None))
                 .is_err()
         );
     }
     assert_eq!(rt; case.counts(), before);
-    assert_eq!(rt; case.line(&PublishedPage, 1, 3, None, None), Ok(3));
+    assert_eq!(rt; case.line(&PublishedPage, by_rule(1, 3, None, None)), Ok(3));
     Ok(())
 }
 
@@ -63,7 +69,7 @@ fn lines_stay_when_formulas_are_entered(rt: HostRuntime) -> Result<(), Fail> {
     assert_eq!(rt; case.held_line(2), induction);
     assert_eq!(rt; case.counts().lines, 3);
     assert_eq!(rt;
-        case.line(&PublishedPage, 6, next_carry, Some(1), None),
+        case.line(&PublishedPage, by_rule(6, next_carry, Some(1), None)),
         Ok(3)
     );
     let nex = Line {
@@ -80,18 +86,18 @@ fn lines_stay_when_formulas_are_entered(rt: HostRuntime) -> Result<(), Fail> {
 #[test]
 fn assumptions_are_held_under_every_page(rt: HostRuntime) -> Result<(), Fail> {
     let mut case = carry(rt.alloc())?;
-    assert_eq!(rt; case.line(&NothingPage, 0, 2, None, None), Ok(0));
-    assert_eq!(rt; case.line(&TautPage, 0, 2, None, None), Ok(1));
+    assert_eq!(rt; case.line(&NothingPage, by_rule(0, 2, None, None)), Ok(0));
+    assert_eq!(rt; case.line(&TautPage, by_rule(0, 2, None, None)), Ok(1));
     for (first, second) in [(Some(0), None), (None, Some(0)), (Some(0), Some(0))] {
-        let answer = case.line(&PublishedPage, 0, 2, first, second);
+        let answer = case.line(&PublishedPage, by_rule(0, 2, first, second));
         assert_eq!(rt; answer, Err(Refusal::NotAdmitted));
     }
     assert_eq!(rt;
-        case.line(&TautPage, 0, 3, None, None),
+        case.line(&TautPage, by_rule(0, 3, None, None)),
         Err(Refusal::NotAdmitted)
     );
     assert_eq!(rt;
-        case.line(&PublishedPage, 0, 0, None, None),
+        case.line(&PublishedPage, by_rule(0, 0, None, None)),
         Err(Refusal::NotAdmitted)
     );
     Ok(())
@@ -102,11 +108,11 @@ fn assumptions_are_held_under_every_page(rt: HostRuntime) -> Result<(), Fail> {
 fn pages_are_asked(rt: HostRuntime) -> Result<(), Fail> {
     let mut case = carry(rt.alloc())?;
     for rule in [1, 20, 65535] {
-        let answer = case.line(&NothingPage, rule, 3, None, None);
+        let answer = case.line(&NothingPage, by_rule(rule, 3, None, None));
         assert_eq!(rt; answer, Err(Refusal::NotAdmitted));
     }
     for (rule, number) in [(1, 0), (20, 1), (65535, 2)] {
-        let answer = case.line(&TautPage, rule, 3, None, None);
+        let answer = case.line(&TautPage, by_rule(rule, 3, None, None));
         assert_eq!(rt; answer, Ok(number));
     }
     let told = case.held_line(2).map(|line| line.rule);
@@ -119,7 +125,7 @@ fn pages_are_asked(rt: HostRuntime) -> Result<(), Fail> {
 fn derived_formulas_stand(rt: HostRuntime) -> Result<(), Fail> {
     let mut case = derived(rt.alloc())?;
     let mut scratch = [0; 24];
-    case.line(&PublishedPage, 1, 3, None, None)?;
+    case.line(&PublishedPage, by_rule(1, 3, None, None))?;
     assert_eq!(rt;
         case.refute(&TableRun::new(&NOTHING), 4, 0, &mut scratch),
         Ok(0)
@@ -136,7 +142,13 @@ fn derived_formulas_stand(rt: HostRuntime) -> Result<(), Fail> {
     }
     assert_eq!(rt; case.standing(6), Err(Refusal::NotEntered));
     let broken = case.refute(&TableRun::new(&ONCE), 5, 0, &mut scratch);
-    assert_eq!(rt; broken, Err(Refusal::AssumptionFalse(0, 0)));
+    assert_eq!(rt;
+        broken,
+        Err(Refusal::AssumptionFalse {
+            place: 0,
+            position: 0
+        })
+    );
     let kept = case.refute(&TableRun::new(&NOTHING), 5, 0, &mut scratch);
     assert_eq!(rt; kept, Err(Refusal::FormulaTrue));
     Ok(())
@@ -160,12 +172,12 @@ fn lines_are_512(rt: HostRuntime) -> Result<(), Fail> {
     let mut case = carry(rt.alloc())?;
     let next_truth = next(&mut case, 3)?;
     for number in 0..511u16 {
-        let answer = case.line(&PublishedPage, 1, 3, None, None);
+        let answer = case.line(&PublishedPage, by_rule(1, 3, None, None));
         assert_eq!(rt; answer, Ok(number));
     }
-    let last = case.line(&PublishedPage, 6, next_truth, Some(510), None);
+    let last = case.line(&PublishedPage, by_rule(6, next_truth, Some(510), None));
     assert_eq!(rt; last, Ok(511));
-    let more = case.line(&PublishedPage, 6, next_truth, Some(511), None);
+    let more = case.line(&PublishedPage, by_rule(6, next_truth, Some(511), None));
     assert_eq!(rt; more, Err(Refusal::LinesFull));
     assert_eq!(rt; case.counts().lines, 512);
     assert_eq!(rt; case.held_line(511).map(|line| line.first), Ok(Some(510)));

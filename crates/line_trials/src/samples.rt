@@ -1,5 +1,5 @@
 // What the trials of lines share: cases, and the bytes of runs.
-use cases::{OpenCase, SealedCase};
+use cases::{Line, OpenCase, SealedCase};
 use rules::PublishedPage;
 use std::alloc::Global;
 use std::test::Fail;
@@ -9,6 +9,16 @@ pub(crate) const NOTHING: [u8; 8] = [0, 0, 1, 0, 0, 0, 0, 0];
 
 // A table run with v0 at position 0 alone, and a loop of one position behind it.
 pub(crate) const ONCE: [u8; 12] = [1, 0, 1, 0, 1, 0, 0, 0, 0, 0, 0, 0];
+
+// A line by a rule, of a formula, from what stands at two places.
+pub(crate) fn by_rule(rule: u16, formula: u16, first: Option<u16>, second: Option<u16>) -> Line {
+    Line {
+        rule,
+        formula,
+        first,
+        second,
+    }
+}
 
 // The six forms v0, ○v0, v0 → ○v0, v0 → v0, □v0, v0 → □v0, of which v0 → ○v0 is assumed.
 pub(crate) fn carry(heap: Global) -> Result<SealedCase, Fail> {
@@ -31,8 +41,8 @@ pub(crate) fn carry(heap: Global) -> Result<SealedCase, Fail> {
 // The same case with v0 → v0 as line 0, v0 → ○v0 as line 1 and v0 → □v0 as line 2.
 pub(crate) fn derived(heap: Global) -> Result<SealedCase, Fail> {
     let mut case = carry(heap)?;
-    case.line(&PublishedPage, 1, 3, None, None)?;
-    case.line(&PublishedPage, 0, 2, None, None)?;
-    case.line(&PublishedPage, 7, 5, Some(0), Some(1))?;
+    case.line(&PublishedPage, by_rule(1, 3, None, None))?;
+    case.line(&PublishedPage, by_rule(0, 2, None, None))?;
+    case.line(&PublishedPage, by_rule(7, 5, Some(0), Some(1)))?;
     Ok(case)
 }

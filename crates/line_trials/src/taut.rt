@@ -1,5 +1,6 @@
 // Tautologies, and where the limit lies.
 use crate::connectives::{always, and, atom, atoms_chained, implies, next, not};
+use crate::samples::by_rule;
 use cases::{OpenCase, SealedCase};
 use refusals::Refusal;
 use rules::PublishedPage;
@@ -7,7 +8,7 @@ use std::test::Fail;
 
 // A formula by rule 1.
 fn taut(case: &mut SealedCase, formula: u16) -> Result<u16, Refusal> {
-    case.line(&PublishedPage, 1, formula, None, None)
+    case.line(&PublishedPage, by_rule(1, formula, None, None))
 }
 
 // v0 → (v1 → … (v11 → v0)) has 12 prime parts, and the same with v12 has 13. With a premise it is not admitted, and not
@@ -21,7 +22,7 @@ fn twelve_atoms_are_within_the_limit(rt: HostRuntime) -> Result<(), Fail> {
     assert_eq!(rt; taut(&mut case, thirteen), Err(Refusal::BeyondLimit));
     for (first, second) in [(Some(0), None), (None, Some(0)), (Some(0), Some(0))] {
         for formula in [twelve, thirteen] {
-            let answer = case.line(&PublishedPage, 1, formula, first, second);
+            let answer = case.line(&PublishedPage, by_rule(1, formula, first, second));
             assert_eq!(rt; answer, Err(Refusal::NotAdmitted));
         }
     }

@@ -8,30 +8,11 @@ use Rattle.logic.specs.Same.{same}
 
 pub same_true : (A X : Formula) → same A X ≡ true → A ≡ X
 same_true falsum falsum e = refl
-same_true falsum (atom b) e = absurd (false≢true e)
-same_true falsum (implies B B') e = absurd (false≢true e)
-same_true falsum (next B) e = absurd (false≢true e)
-same_true falsum (always B) e = absurd (false≢true e)
-same_true (atom a) falsum e = absurd (false≢true e)
 same_true (atom a) (atom b) e = ap atom (sym (eqb-true b a e))
-same_true (atom a) (implies B B') e = absurd (false≢true e)
-same_true (atom a) (next B) e = absurd (false≢true e)
-same_true (atom a) (always B) e = absurd (false≢true e)
-same_true (implies A A') falsum e = absurd (false≢true e)
-same_true (implies A A') (atom b) e = absurd (false≢true e)
 same_true (implies A A') (implies B B') e = let (p, q) = and_parts (same A B) (same A' B') e in ap₂ implies (same_true A B p) (same_true A' B' q)
-same_true (implies A A') (next B) e = absurd (false≢true e)
-same_true (implies A A') (always B) e = absurd (false≢true e)
-same_true (next A) falsum e = absurd (false≢true e)
-same_true (next A) (atom b) e = absurd (false≢true e)
-same_true (next A) (implies B B') e = absurd (false≢true e)
 same_true (next A) (next B) e = ap next (same_true A B e)
-same_true (next A) (always B) e = absurd (false≢true e)
-same_true (always A) falsum e = absurd (false≢true e)
-same_true (always A) (atom b) e = absurd (false≢true e)
-same_true (always A) (implies B B') e = absurd (false≢true e)
-same_true (always A) (next B) e = absurd (false≢true e)
 same_true (always A) (always B) e = ap always (same_true A B e)
+same_true A X e = absurd (false≢true e)
 
 pub same_refl : (A : Formula) → same A A ≡ true
 same_refl falsum = refl

@@ -63,7 +63,7 @@ impl Outcomes {
     fn count(&mut self, walked: Result<u16, Refusal>, assumed: bool) {
         self.refutations = self.refutations.wrapping_add(1);
         match walked {
-            Err(Refusal::AssumptionFalse(place, position)) => {
+            Err(Refusal::AssumptionFalse { place, position }) => {
                 self.assumption_false = self.assumption_false.wrapping_add(1);
                 self.at_later_place = self.at_later_place.wrapping_add(u64::from(place > 0));
                 self.at_later_position = self

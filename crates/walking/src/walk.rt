@@ -41,7 +41,7 @@ impl Truths {
         self.said.get(place).copied().unwrap_or(false)
     }
 
-    // What is answered where a run is to refute a formula at a position, and so many refutations are held.
+    // What is answered where a run is to refute a formula at a position, and this many refutations are held.
     pub(crate) fn refute(
         &self,
         case: &SealedCase,
@@ -50,7 +50,10 @@ impl Truths {
         held: u16,
     ) -> Result<u16, Refusal> {
         if let Some((place, at)) = self.first_false(case) {
-            return Err(Refusal::AssumptionFalse(place, at));
+            return Err(Refusal::AssumptionFalse {
+                place,
+                position: at,
+            });
         }
         if self.says(formula, usize::from(position)) {
             return Err(Refusal::FormulaTrue);

@@ -2,7 +2,8 @@
 use Rattle.std.specs.Prelude.{◌≡◌, ℕ, ◌≤◌, ◌+◌, List, [], ◌∷◌, Some, None, Ok, Err}
 use Rattle.std.specs.List.{AllByRecursion}
 use Rattle.logic.specs.Formula.{Formula, atom, implies, next, always}
-use Rattle.refusals.specs.declared.Refusal.TheVariants.{UnknownKind}
+use Rattle.formulas.specs.declared.refusal.FormRefusal.TheVariants.{UnknownKind}
+use Rattle.refusals.specs.declared.Refusal.TheVariants.{Form}
 use Rattle.runs.specs.declared.fault.RunFault.TheVariants.{WrongLength, NoRun}
 use Rattle.runs.specs.Pulses.{pulse_check}
 use Rattle.runs.specs.Rules.{PulseRules}
@@ -54,7 +55,7 @@ pub record HypothesesMet : Type 0 where
   pub refutation_held : HeldRefutation sealed_stage example 0 4 0 never
   pub refuted_formed : Formed sealed_stage example 4 (always (atom 0))
   -- of `RefusalsChangeNothing`
-  pub call_refused : Refused {s = open_stage} empty (form 5 0 0) UnknownKind
+  pub call_refused : Refused {s = open_stage} empty (form 5 0 0) (Form UnknownKind)
   -- of `LineExact`, `LineHeldExactly`, `RefuteExact` and `RefutationHeldExactly`, on a case that has all it can have
   pub case_within_limits : Limits (after example)
   -- of `RowsTell`

@@ -1,6 +1,7 @@
 -- The numbers that a caller can be told, each beside what it stands for.
 use Rattle.std.specs.Prelude.{◌≡◌, ℕ, List, [], ◌∷◌, Some, None, Option, All}
-use Rattle.refusals.specs.declared.Refusal.TheVariants.{UnknownKind, BadField, FormulasFull, NotEntered, AssumptionsFull, LineNotHeld, LinesFull, NotAdmitted, BeyondLimit, RunTooLong, PastRun, ScratchTooShort, AssumptionFalse, FormulaTrue, RefutationsFull, RefutationNotHeld}
+use Rattle.formulas.specs.declared.refusal.FormRefusal.TheVariants.{UnknownKind, BadField, FormulasFull}
+use Rattle.refusals.specs.declared.Refusal.TheVariants.{Form, NotEntered, AssumptionsFull, LineNotHeld, LinesFull, NotAdmitted, BeyondLimit, RunTooLong, PastRun, ScratchTooShort, AssumptionFalse, FormulaTrue, RefutationsFull, RefutationNotHeld}
 use Rattle.records.specs.declared.fault.RecordFault.TheVariants.{ShortHead, PayloadCut, NoSeal}
 use Rattle.records.specs.declared.fault.PayloadFault.TheVariants.{KindNotAllowed, WrongLength, NoRun}
 use Rattle.records.specs.declared.fault.Cause.{Cause}
@@ -44,9 +45,9 @@ row told layer number = record { told = told; layer = layer; number = number }
 abbrev pub numbers : List NumberRow
 numbers =
     -- what a case refuses
-    row (unread (Case UnknownKind)) (Some 3) 1
-    ∷ row (unread (Case BadField)) (Some 3) 2
-    ∷ row (unread (Case FormulasFull)) (Some 3) 3
+    row (unread (Case (Form UnknownKind))) (Some 3) 1
+    ∷ row (unread (Case (Form BadField))) (Some 3) 2
+    ∷ row (unread (Case (Form FormulasFull))) (Some 3) 3
     ∷ row (unread (Case NotEntered)) (Some 3) 4
     ∷ row (unread (Case AssumptionsFull)) (Some 3) 5
     ∷ row (unread (Case LineNotHeld)) (Some 3) 6
