@@ -19,7 +19,8 @@ use Rattle.model.specs.Case.{Case}
 use Rattle.model.specs.Calls.{unchanged}
 use Rattle.model.specs.Lines.{place_held, premise, line_verdict, line_by, line}
 use Rattle.model.specs.Limits.{LinesEntered}
-use Rattle.model.proofs.LineGoes.{Allowed, line_unknown, line_unplaced, line_full, line_judged_as}
+use Rattle.model.proofs.LineGoes.{Allowed}
+use Rattle.model.proofs.Checks.{line_unknown, line_unplaced, line_full, line_judged_as}
 use Rattle.cases.specs.Asking.{premise_number, asked_with, question_for}
 
 module _ (c : Case) where

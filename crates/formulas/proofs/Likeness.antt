@@ -1,5 +1,5 @@
 -- Tests of likeness of entries that are equality.
-use Rattle.std.proofs.Common.{◌≡◌, ℕ, zero, suc, Bool, true, ◌&&◌, eqb, refl, sym, ap, ◌∙◌}
+use Rattle.std.proofs.Common.{◌≡◌, ℕ, zero, suc, Bool, true, ◌&&◌, eqb, refl, sym, ap, ◌∙◌, arith}
 use Rattle.std.proofs.lemmas.Bool.{and_parts, and_from, eqb-true, eq-eqb, false≢true}
 use Rattle.logic.specs.Same.{same}
 use Rattle.logic.proofs.Same.{same_true, same_refl}
@@ -35,30 +35,20 @@ entry_itself (Always a) = eq-eqb a a refl
 pub entry_tells : IsEquality entry_eq
 entry_tells = record { sound = entry_sound; itself = entry_itself }
 
--- an entry is told by its kind and its two fields
-with_fields : ℕ → ℕ → ℕ → Entry
-with_fields zero l r = False
-with_fields (suc zero) l r = Atom l
-with_fields (suc (suc zero)) l r = Implies l r
-with_fields (suc (suc (suc zero))) l r = Next l
-with_fields (suc (suc (suc (suc n)))) l r = Always l
-
-told_by_fields : (e : Entry) → with_fields (kind_of e) (left_of e) (right_of e) ≡ e
-unfolding with_fields
-told_by_fields False = refl
-told_by_fields (Atom a) = refl
-told_by_fields (Implies a b) = refl
-told_by_fields (Next a) = refl
-told_by_fields (Always a) = refl
+-- entries with one kind and the same two fields are one
+pub entry_by_fields : (d e : Entry) → kind_of d ≡ kind_of e → left_of d ≡ left_of e → right_of d ≡ right_of e → d ≡ e
+entry_by_fields False False kind left right = refl
+entry_by_fields (Atom a) (Atom b) kind left right = ap Atom left
+entry_by_fields (Implies a b) (Implies c d) kind left right = λ i. Implies (left i) (right i)
+entry_by_fields (Next a) (Next b) kind left right = ap Next left
+entry_by_fields (Always a) (Always b) kind left right = ap Always left
+entry_by_fields d e kind left right = absurd (omega (arith, kind))
 
 alike_sound : (e f : Entry) → alike e f ≡ true → e ≡ f
 alike_sound e f h =
     let p = and_parts (eqb (kind_of e) (kind_of f)) (eqb (left_of e) (left_of f) && eqb (right_of e) (right_of f)) h in
     let q = and_parts (eqb (left_of e) (left_of f)) (eqb (right_of e) (right_of f)) p.1 in
-    let kind = eqb-true (kind_of e) (kind_of f) p.0 in
-    let left = eqb-true (left_of e) (left_of f) q.0 in
-    let right = eqb-true (right_of e) (right_of f) q.1 in
-    sym (told_by_fields e) ∙ (λ i. with_fields (kind i) (left i) (right i)) ∙ told_by_fields f
+    entry_by_fields e f (eqb-true (kind_of e) (kind_of f) p.0) (eqb-true (left_of e) (left_of f) q.0) (eqb-true (right_of e) (right_of f) q.1)
 
 alike_itself : (e : Entry) → alike e e ≡ true
 alike_itself e = and_from _ _ (eq-eqb (kind_of e) (kind_of e) refl) (and_from _ _ (eq-eqb (left_of e) (left_of e) refl) (eq-eqb (right_of e) (right_of e) refl))

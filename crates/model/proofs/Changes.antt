@@ -1,7 +1,6 @@
 -- How a call changes a case: each list stays, or has one more member at its end, by whose number the call is answered.
-use Rattle.std.proofs.Common.{◌≡◌, ℕ, ◌<◌, ◌≤◌, [], ◌∷◌, ◌++◌, List, length, Some, Ok, Err, Option, Result, sym, refl, ap, ◌∙◌, subst, inl, inr, arith}
+use Rattle.std.proofs.Common.{◌≡◌, ℕ, ◌<◌, [], ◌∷◌, ◌++◌, List, length, Some, Ok, Err, Result, sym, refl, ap, ◌∙◌, subst}
 use Rattle.std.specs.List.{slice_get}
-use Rattle.std.proofs.lemmas.Bool.{ltb-true, and_parts}
 use Rattle.refusals.specs.declared.Refusal.{Refusal}
 use Rattle.refusals.proofs.Answers.{ok_not_err, ok_same}
 use Rattle.logic.specs.Formula.{Formula}
@@ -9,7 +8,7 @@ use Rattle.logic.specs.Run.{Run}
 use Rattle.calculus.specs.Pages.{Page}
 use Rattle.calculus.specs.declared.verdict.Verdict.TheVariants.{Admitted, NotAdmitted, BeyondLimit}
 use Rattle.lists.proofs.Members.{nth_push}
-use Rattle.lists.proofs.Growing.{Grown, as_it_was, one_more, grown_keeps, grown_brings, grown_same, grown_longer, grown_within, grown_distinct, grown_every}
+use Rattle.lists.proofs.Growing.{Grown, as_it_was, one_more}
 use Rattle.model.specs.declared.line.Line.{Line}
 use Rattle.model.specs.declared.refutation.Refutation.{Refutation}
 use Rattle.model.specs.Case.{Case}
@@ -21,12 +20,11 @@ use Rattle.model.specs.Judging as judging
 use Rattle.model.specs.Judging.{once_checked, true_at}
 use Rattle.model.specs.Describes.{Number, Describes}
 use Rattle.model.specs.Outcomes.{Absent, Forming, unknown_kind, bad_field, formula_there, formulas_full, formula_entered, Assuming, not_entered, assumption_there, assumptions_full, newly_assumed, Judgeable}
-use Rattle.model.specs.History.{Stage, Call, form, assume, truth, line, refute, after_call, Refused}
-use Rattle.model.specs.Limits.{Limits}
-use Rattle.model.specs.Promises.{RefusalsChangeNothing}
-use Rattle.model.proofs.Describing.{describes_one, describes_kept}
+use Rattle.model.specs.History.{Stage, Call, form, assume, truth, line, refute, after_call}
+use Rattle.model.proofs.Describing.{describes_one}
 use Rattle.model.proofs.Exact.{form_exact, assume_exact}
-use Rattle.model.proofs.LineGoes.{Allowed, LineGoes, unknown, unplaced, full, judged, line_goes, line_allowed, line_judged_as}
+use Rattle.model.proofs.LineGoes.{Allowed, LineGoes, unknown, unplaced, full, judged, line_goes, line_allowed}
+use Rattle.model.proofs.Checks.{line_judged_as}
 use Rattle.model.proofs.Judged.{RefuteGoes, unjudged, full as refutations_full, judged as run_judged, refute_goes}
 
 -- ---- what a call may bring

@@ -1,5 +1,4 @@
 -- After every history, the counts tell which numbers are in use.
-use Rattle.model.specs.History.{Stage, History, after, Formed, Assumed}
 use Rattle.model.specs.Promises.{CountsTell}
 use Rattle.model.proofs.Reading.{counted}
 use Rattle.model.proofs.Histories.{formulas_exactly, assumptions_exactly}

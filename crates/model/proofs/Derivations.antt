@@ -9,7 +9,6 @@ use Rattle.lists.specs.Adding.{Distinct}
 use Rattle.lists.proofs.Growing.{grown_same}
 use Rattle.lists.proofs.Members.{some_same, nth_within, nth_there}
 use Rattle.model.specs.declared.line.Line.{Line}
-use Rattle.model.specs.Case.{Case}
 use Rattle.model.specs.Describes.{Number}
 use Rattle.model.specs.History.{sealed_stage, Call, line, History, then, after, Formed, formed_earlier, Assumed, assumed_earlier, HeldLine, line_last, line_earlier}
 use Rattle.model.specs.Entering.{Ready, Between, form_between, truth_between, refute_between, refused_between, entered_as, Entering, not_begun, other_call, next_line}

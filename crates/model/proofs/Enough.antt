@@ -1,16 +1,14 @@
 -- With 4 words for each of 1,024 formulas, no scratch is too short.
 use Rattle.std.proofs.Common.{◌≡◌, ℕ, ◌+◌, ◌≤◌, Bool, true, false, List, length, Some, None, Ok, Err, Option, Result, ap, subst, ◌≢◌, arith}
-use lib.Dec
-use Rattle.std.proofs.lemmas.Bool.{cond_both}
 use Rattle.refusals.specs.declared.Refusal.{Refusal}
-use Rattle.refusals.specs.declared.Refusal.TheVariants.{ScratchTooShort, FormulaTrue, RefutationsFull}
+use Rattle.refusals.specs.declared.Refusal.TheVariants.{ScratchTooShort}
 use Rattle.refusals.specs.Numbers.{number_of}
 use Rattle.refusals.proofs.Answers.{ok_not_err}
 use Rattle.logic.specs.Run.{Run}
 use Rattle.truths.specs.Searching.{first_failing}
 use Rattle.model.specs.Case.{Case}
 use Rattle.model.specs.Calls.{Outcome, unchanged}
-use Rattle.model.specs.Judging.{check, once_checked, true_at, judged_by, judge, held_by, truth, refute}
+use Rattle.model.specs.Judging.{check, once_checked, true_at, judged_by, held_by, truth, refute}
 use Rattle.model.specs.Outcomes.{Unjudgeable, scratch_too_short}
 use Rattle.model.specs.History.{after}
 use Rattle.model.specs.Promises.{ScratchSuffices}

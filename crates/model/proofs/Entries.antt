@@ -1,5 +1,5 @@
 -- A formula and the entry that is read for it.
-use Rattle.std.proofs.Common.{◌≡◌, ℕ, ◌<◌, ◌≤◌, true, cond, eqb, List, length, get_or, Some, None, Option, unwrap_or, sym, refl, ap, ◌∙◌, subst, ap₂, inl, inr, arith}
+use Rattle.std.proofs.Common.{◌≡◌, ℕ, ◌<◌, ◌≤◌, true, List, length, get_or, Some, None, Option, unwrap_or, sym, refl, ap, ◌∙◌, subst, ap₂, inl, inr, arith}
 use lib.Dec
 use Rattle.std.specs.List.{slice_get}
 use Rattle.std.specs.Option.{option_map}
@@ -15,6 +15,7 @@ use Rattle.formulas.specs.Decode.{of_entry, formula_at, decoded}
 use Rattle.lists.proofs.Members.{some_same, some_not_none}
 use Rattle.lists.proofs.Places.{place_only}
 use Rattle.logic.proofs.Same.{same_tells}
+use Rattle.formulas.proofs.Likeness.{entry_by_fields}
 use Rattle.formulas.proofs.Decoded.{formula_at_is, decoded_nth, decoded_length}
 use Rattle.formulas.proofs.Forming.{decoded_distinct}
 use Rattle.model.specs.Case.{Case}
@@ -53,25 +54,10 @@ module _ (es : List Entry) (low : Lower es) (distinct : Distinct es) where
 -- ---- what it means in the model
 
 -- an entry has these three numbers
-pub record Fields (e : Entry) (kind left right : ℕ) : Type 0 where
-  pub kind_is : kind_of e ≡ kind
-  pub left_is : left_of e ≡ left
-  pub right_is : right_of e ≡ right
-
--- an entry is made of its three numbers
-of_three : ℕ → ℕ → ℕ → Entry
-of_three k l r = cond (eqb k 0) False (cond (eqb k 1) (Atom l) (cond (eqb k 2) (Implies l r) (cond (eqb k 3) (Next l) (Always l))))
-
-of_three_is : (e : Entry) → of_three (kind_of e) (left_of e) (right_of e) ≡ e
-unfolding of_three
-of_three_is False = refl
-of_three_is (Atom a) = refl
-of_three_is (Implies a b) = refl
-of_three_is (Next a) = refl
-of_three_is (Always a) = refl
-
-fields_same : (d e : Entry) → Fields d (kind_of e) (left_of e) (right_of e) → d ≡ e
-fields_same d e f = sym (of_three_is d) ∙ (λ i. of_three (f.kind_is i) (f.left_is i) (f.right_is i)) ∙ of_three_is e
+record Fields (e : Entry) (kind left right : ℕ) : Type 0 where
+  kind_is : kind_of e ≡ kind
+  left_is : left_of e ≡ left
+  right_is : right_of e ≡ right
 
 as_described : (fs : List Formula) → Distinct fs → {kind left right : ℕ} {A : Formula} → Describes fs kind left right A → Fields (as_entry fs A) kind left right
 as_described fs distinct false_kind = record { kind_is = refl; left_is = refl; right_is = refl }
@@ -102,4 +88,4 @@ module _ (c : Case) (limits : Limits c) (n : ℕ) (e : Entry) where
   pub describes_entry : (A : Formula) → Number c.formulas n A → Describes c.formulas (kind_of e) (left_of e) (right_of e) A → entry_in c n ≡ Some e
   describes_entry A there described =
       ap (option_map (as_entry c.formulas)) there
-      ∙ ap Some (fields_same (as_entry c.formulas A) e (as_described c.formulas limits.formulas_distinct described))
+      ∙ (let f = as_described c.formulas limits.formulas_distinct described in ap Some (entry_by_fields (as_entry c.formulas A) e f.kind_is f.left_is f.right_is))

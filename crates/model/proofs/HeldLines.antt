@@ -6,7 +6,7 @@ use Rattle.lists.proofs.Members.{some_not_none}
 use Rattle.lists.proofs.Growing.{grown_keeps, grown_brings, grown_same}
 use Rattle.model.specs.declared.line.Line.{Line}
 use Rattle.model.specs.Case.{Case}
-use Rattle.model.specs.History.{Stage, open_stage, Call, form, line, History, new, then, then_seal, after_call, after, HeldLine, line_last, line_earlier}
+use Rattle.model.specs.History.{Stage, open_stage, Call, form, line, History, new, then, then_seal, after, HeldLine, line_last, line_earlier}
 use Rattle.model.specs.Promises.{LinesHeld}
 use Rattle.model.proofs.Changes.{Answered, BringsLine, changes, line_gives}
 use Rattle.model.proofs.Reading.{Exactly, reads, reads_none}

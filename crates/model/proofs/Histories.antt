@@ -1,5 +1,5 @@
 -- What every history keeps of formulas and assumptions, and its limits.
-use Rattle.std.proofs.Common.{◌≡◌, ℕ, ◌<◌, ◌≤◌, ◌⊎◌, List, length, Some, Option, true, sym, ap, ◌∙◌, subst, inl, inr, arith}
+use Rattle.std.proofs.Common.{◌≡◌, ℕ, ◌<◌, ◌⊎◌, length, Some, Option, true, sym, ◌∙◌, subst, inl, inr, arith}
 use Rattle.std.specs.List.{slice_get}
 use Rattle.std.proofs.lemmas.Bool.{and_parts, ltb-true}
 use Rattle.refusals.specs.declared.Refusal.{Refusal}
@@ -14,13 +14,12 @@ use Rattle.model.specs.Lines.{place_held}
 use Rattle.model.specs.Describes.{Number, Describes}
 use Rattle.model.specs.History.{Stage, open_stage, sealed_stage, Call, form, assume, truth, line, refute, History, new, then, then_seal, after_call, after, Refused, Formed, formed_last, formed_earlier, formed_before_seal, Assumed, assumed_last, assumed_earlier, assumed_before_seal}
 use Rattle.model.specs.Outcomes.{Absent}
-use Rattle.model.specs.Limits.{Closed, PlacesEarlier, Limits}
+use Rattle.model.specs.Limits.{Limits}
 use Rattle.model.specs.Promises.{RefusalsChangeNothing, FormulasFormed, AssumptionsAssumed, EntriesTell, LimitsKept}
 use Rattle.model.proofs.Describing.{describes_kept}
 use Rattle.model.proofs.Entries.{entry_describes, describes_entry}
-use Rattle.model.proofs.LineGoes.{Allowed}
 use Rattle.model.proofs.Reading.{Exactly}
-use Rattle.model.proofs.Changes.{Answered, BringsFormula, BringsAssumption, BringsLine, BringsRefutation, Changes, changes, truth_changes_nothing, form_gives, assume_gives}
+use Rattle.model.proofs.Changes.{Answered, BringsFormula, BringsAssumption, BringsLine, BringsRefutation, changes, form_gives, assume_gives}
 
 -- ---- a refused call
 

@@ -6,7 +6,7 @@ use Rattle.std.specs.List.{slice_get}
 use Rattle.std.proofs.lemmas.Option.{slice_get-get_or}
 use Rattle.std.proofs.lemmas.Bool.{cases_lt, cond_both, ltb-true, ltb-false, leb-true, leb-false}
 use Rattle.refusals.specs.declared.Refusal.{Refusal}
-use Rattle.refusals.specs.declared.Refusal.TheVariants.{NotEntered, RunTooLong, PastRun, ScratchTooShort, FormulaTrue, RefutationsFull}
+use Rattle.refusals.specs.declared.Refusal.TheVariants.{ScratchTooShort, FormulaTrue, RefutationsFull}
 use Rattle.logic.specs.Formula.{Formula, falsum}
 use Rattle.logic.specs.Run.{Run}
 use Rattle.logic.specs.Truth.{Holds, Throughout}

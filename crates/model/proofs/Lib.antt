@@ -2,13 +2,11 @@ pub mod Describing
 pub mod Exact
 pub mod Entries
 pub mod Checks
-pub mod AssumeComesTo
 pub mod LineGoes
 pub mod Judged
 pub mod AssumptionLines
 pub mod Lining
 pub mod Changes
-pub mod RefuteComesTo
 pub mod Histories
 pub mod Reading
 pub mod Kept

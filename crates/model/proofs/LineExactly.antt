@@ -19,7 +19,8 @@ use Rattle.model.specs.Outcomes.{Premise, no_premise, on_line, Stated, StatesAss
 use Rattle.model.specs.Promises.{CalculusGives, as_assumption, by_its_rule, LineHeldExactly}
 use Rattle.model.proofs.Describing.{numbered_is}
 use Rattle.model.proofs.AssumptionLines.{assumption_admitted, assumption_admits}
-use Rattle.model.proofs.LineGoes.{Allowed, line_allowed, line_judged_as}
+use Rattle.model.proofs.LineGoes.{Allowed, line_allowed}
+use Rattle.model.proofs.Checks.{line_judged_as}
 use Rattle.model.proofs.Lining.{stated}
 
 -- the axioms and rules have the numbers 1 to 7

@@ -1,8 +1,7 @@
--- line by its checks in their order, and what it answers where these are known.
-use Rattle.std.proofs.Common.{◌≡◌, ℕ, ◌<◌, ◌≤◌, true, false, not, ◌&&◌, length, if◌then◌else◌, Ok, Err, sym, refl, ap, ◌∙◌, arith}
+-- line by its checks in their order.
+use Rattle.std.proofs.Common.{◌≡◌, ℕ, ◌<◌, ◌≤◌, true, false, not, ◌&&◌, length, Ok, Err, sym, refl}
 use lib.Dec
-use Rattle.std.specs.List.{slice_get}
-use Rattle.std.proofs.lemmas.Bool.{cond_both, cond-true, cond-false, leb-true, leb-false, le-leb, lt-leb, not-true, not-false, not_from_true, not_from_false}
+use Rattle.std.proofs.lemmas.Bool.{cond_both, leb-true, leb-false, not-true, not-false}
 use Rattle.refusals.specs.declared.Refusal.TheVariants.{NotEntered, LineNotHeld, LinesFull}
 use Rattle.refusals.proofs.Answers.{ok_not_err, ok_same}
 use Rattle.calculus.specs.declared.verdict.Verdict.{Verdict}
@@ -52,30 +51,3 @@ module _ (c : Case) (page : Page) (l : Line) where
       allowed (judged known placed room Admitted v) is = (sym (ok_same is), record { entered = known; placed = placed; room = room; admitted = v })
       allowed (judged known placed room NotAdmitted v) is = absurd (ok_not_err (sym is))
       allowed (judged known placed room BeyondLimit v) is = absurd (ok_not_err (sym is))
-
-  -- ---- what it answers
-
-  pub line_unknown : length c.formulas ≤ l.formula → line c page l ≡ unchanged c (Err NotEntered)
-  unfolding line
-  line_unknown past = cond-true (Dec.leb (length c.formulas) l.formula) _ _ (le-leb (length c.formulas) l.formula past)
-
-  module _ (known : l.formula < length c.formulas) where
-    pub line_unplaced : (place_held c l.first && place_held c l.second) ≡ false → line c page l ≡ unchanged c (Err LineNotHeld)
-    unfolding line
-    line_unplaced at =
-        cond-false (Dec.leb (length c.formulas) l.formula) _ _ (lt-leb (length c.formulas) l.formula known)
-        ∙ cond-true (not (place_held c l.first && place_held c l.second)) _ _ (not_from_false _ at)
-
-    module _ (placed : Placed) where
-      line_placed : line c page l ≡ (if Dec.leb 512 (length c.lines) then unchanged c (Err LinesFull) else line_by c l (line_verdict c page l))
-      unfolding line
-      line_placed =
-          cond-false (Dec.leb (length c.formulas) l.formula) _ _ (lt-leb (length c.formulas) l.formula known)
-          ∙ cond-false (not (place_held c l.first && place_held c l.second)) _ _ (not_from_true _ placed)
-
-      pub line_full : 512 ≤ length c.lines → line c page l ≡ unchanged c (Err LinesFull)
-      line_full most = line_placed ∙ cond-true (Dec.leb 512 (length c.lines)) _ _ (le-leb 512 (length c.lines) most)
-
-      -- where the verdict is known
-      pub line_judged_as : length c.lines < 512 → (v : Verdict) → line_verdict c page l ≡ v → line c page l ≡ line_by c l v
-      line_judged_as room v is = line_placed ∙ cond-false (Dec.leb 512 (length c.lines)) _ _ (lt-leb 512 (length c.lines) room) ∙ ap (line_by c l) is

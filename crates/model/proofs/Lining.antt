@@ -1,6 +1,5 @@
 -- line does what its relation says.
 use Rattle.std.proofs.Common.{◌≡◌, ℕ, ◌<◌, ◌≤◌, true, false, ◌&&◌, eqb, length, Some, None, Err, Option, sym, refl, ◌∙◌, subst, inl, inr}
-use lib.Dec
 use Rattle.std.proofs.lemmas.Bool.{cond_both, ltb-true, ltb-false, eqb-true, eqb-false, and_parts, and_from, cases_Bool, true≢false}
 use Rattle.refusals.specs.declared.Refusal.TheVariants.{LineNotHeld}
 use Rattle.calculus.specs.declared.verdict.Verdict.{Verdict}

@@ -4,7 +4,7 @@ use Rattle.std.specs.List.{slice_get}
 use Rattle.std.specs.Option.{ok_or}
 use Rattle.refusals.specs.declared.Refusal.{Refusal}
 use Rattle.refusals.proofs.Answers.{ok_not_err, ok_same}
-use Rattle.lists.proofs.Members.{some_not_none, nth_within, nth_there}
+use Rattle.lists.proofs.Members.{nth_within, nth_there}
 
 pub record Exactly {X : Type 0} (xs : List X) (Held : ℕ → X → Type 0) : Type 0 where
   pub from : (n : ℕ) (x : X) → slice_get xs n ≡ Some x → Held n x

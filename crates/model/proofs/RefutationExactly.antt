@@ -16,7 +16,7 @@ use Rattle.model.proofs.Describing.{numbered_is}
 use Rattle.model.proofs.Judged.{first_failure}
 use Rattle.model.proofs.Changes.{refute_allowed}
 use Rattle.model.proofs.Refuted.{refute_breaks}
-use Rattle.model.proofs.RefuteComesTo.{refute_judged}
+use Rattle.model.proofs.Checks.{refute_judged}
 
 module _ (c : Case) (entered : AssumptionsEntered c.formulas c.assumptions) (r : Run) (f i : ℕ) (b : Breaks c.formulas c.assumptions r f i) where
   -- no assumption fails

@@ -11,7 +11,7 @@ use Rattle.model.specs.Breaking.{Breaks}
 use Rattle.model.specs.Limits.{AssumptionsEntered}
 use Rattle.model.proofs.Checks.{check_passes}
 use Rattle.model.proofs.Judged.{breaking}
-use Rattle.model.proofs.RefuteComesTo.{refute_judged}
+use Rattle.model.proofs.Checks.{refute_judged}
 use Rattle.model.proofs.Changes.{refute_allowed}
 
 -- what a verdict that holds the refutation comes from

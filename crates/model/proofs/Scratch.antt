@@ -1,9 +1,8 @@
 -- What the scratch words say once the rows of all formulas are written.
-use Rattle.std.proofs.Common.{◌≡◌, ℕ, ◌+◌, ◌*◌, ◌<◌, List, length, Some, Ok, Err, Result, refl, subst}
+use Rattle.std.proofs.Common.{◌≡◌, ℕ, ◌+◌, ◌*◌, ◌<◌, List, length, Some, Ok, refl, subst}
 use lib.Dec
 use Rattle.std.specs.List.{slice_get}
-use Rattle.std.proofs.lemmas.Bool.{cond_both, cond-true, and_from, le-leb}
-use Rattle.refusals.specs.declared.Refusal.{Refusal}
+use Rattle.std.proofs.lemmas.Bool.{cond-true, and_from, le-leb}
 use Rattle.logic.specs.Run.{Run}
 use Rattle.truths.specs.Along.{rows_fit, with_rows, rows_after, row_says}
 use Rattle.truths.proofs.Along.{row_along, with_rows_length}

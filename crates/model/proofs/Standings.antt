@@ -1,5 +1,5 @@
 -- After every history, standing tells how a formula stands.
-use Rattle.std.proofs.Common.{◌≡◌, ℕ, ◌<◌, length, Some, None, Ok, Err, Option, refl, ap, ◌∙◌, ◌≢◌, arith}
+use Rattle.std.proofs.Common.{◌≡◌, ℕ, length, Some, None, Ok, Err, Option, refl, ap, ◌∙◌, ◌≢◌, arith}
 use lib.Dec
 use Rattle.std.specs.List.{slice_get}
 use Rattle.std.proofs.lemmas.Bool.{cond_both, leb-true, leb-false}

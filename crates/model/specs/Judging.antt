@@ -7,7 +7,6 @@ use Rattle.logic.specs.Decide as decide
 use Rattle.formulas.specs.Forming.{numbered}
 use Rattle.truths.specs.Along.{with_rows}
 use Rattle.truths.specs.Searching.{first_failing}
-use Rattle.model.specs.declared.refutation.Refutation.{Refutation}
 use Rattle.model.specs.Case.{Case}
 use Rattle.model.specs.Calls.{Outcome, unchanged}
 

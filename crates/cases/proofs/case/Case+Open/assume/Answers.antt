@@ -8,7 +8,7 @@ use Rattle.lists.proofs.Added.{number_or, add_within, add_distinct, add_every}
 use Rattle.lists.proofs.Members.{some_not_none}
 use Rattle.lists.proofs.Places.{eqb_tells}
 use Rattle.model.specs.Limits.{AssumptionsEntered}
-use Rattle.model.proofs.AssumeComesTo.{assume_unknown, assume_known}
+use Rattle.model.proofs.Checks.{assume_unknown, assume_known}
 use Rattle.cases.specs.Model.{modelled}
 use Rattle.cases.proofs.Outcomes.{answer_of, after_of}
 use Rattle.cases.proofs.case.Case+Open.assume.Goals as goal

@@ -11,7 +11,7 @@ use Rattle.model.specs.declared.refutation.Refutation.{Refutation}
 use Rattle.model.specs.Breaking.{Breaks, HaveRuns}
 use Rattle.model.specs.Judging.{refute, refute_scratch}
 use Rattle.model.proofs.Refuted.{judged_breaks}
-use Rattle.model.proofs.RefuteComesTo.{refute_full, scratch_full, refute_judged, scratch_judged}
+use Rattle.model.proofs.Checks.{refute_full, scratch_full, refute_judged, scratch_judged}
 use Rattle.model.proofs.Scratch.{judgeable}
 use Rattle.cases.specs.Model.{modelled}
 use Rattle.cases.proofs.Outcomes.{answer_of, after_of}
