@@ -1,4 +1,4 @@
--- What a page is asked about a line, and what line comes to then.
+-- What a page is asked about a line, and what line answers then.
 use Rattle.std.proofs.Common.{◌≡◌, ℕ, ◌<◌, ◌≤◌, true, false, ◌&&◌, ltb, length, Some, None, Ok, Err, Option, Result, sym, refl, ap, ◌∙◌, subst, ap₂, inl, inr}
 use lib.Dec
 use Rattle.std.specs.Option.{option_map}
@@ -71,10 +71,10 @@ module _ (c : Case) where
     Answered (Ok q) = Asked q
     Answered (Err e) = RefusedBy e
 
-    asked_behind : l.formula < length c.formulas → (o p : Result (Option ℕ) Refusal) → PlaceAsked l.first o → PlaceAsked l.second p → Answered (asked_with l o p)
-    asked_behind known (Err e) p first second = λ page. subst (λ (x : Refusal). line c page l ≡ unchanged c (Err x)) first.1 (line_unplaced c page l known (and_left (place_held c l.first) (place_held c l.second) first.0))
-    asked_behind known (Ok o) (Err e) first second = λ page. subst (λ (x : Refusal). line c page l ≡ unchanged c (Err x)) second.1 (line_unplaced c page l known (and_right (place_held c l.first) (place_held c l.second) second.0))
-    asked_behind known (Ok o) (Ok p) first second = record {
+    asked_when_known : l.formula < length c.formulas → (o p : Result (Option ℕ) Refusal) → PlaceAsked l.first o → PlaceAsked l.second p → Answered (asked_with l o p)
+    asked_when_known known (Err e) p first second = λ page. subst (λ (x : Refusal). line c page l ≡ unchanged c (Err x)) first.1 (line_unplaced c page l known (and_left (place_held c l.first) (place_held c l.second) first.0))
+    asked_when_known known (Ok o) (Err e) first second = λ page. subst (λ (x : Refusal). line c page l ≡ unchanged c (Err x)) second.1 (line_unplaced c page l known (and_right (place_held c l.first) (place_held c l.second) second.0))
+    asked_when_known known (Ok o) (Ok p) first second = record {
       known = known;
       placed = and_from (place_held c l.first) (place_held c l.second) first.held second.held;
       rule = refl;
@@ -85,7 +85,7 @@ module _ (c : Case) where
 
     answered : Answered (question_for c l)
     answered = elim (cases_lt l.formula (length c.formulas)) [
-      | inl known ↦ subst Answered (sym (question_known known)) (asked_behind known (premise_number c l.first) (premise_number c l.second) (place_asked l.first) (place_asked l.second))
+      | inl known ↦ subst Answered (sym (question_known known)) (asked_when_known known (premise_number c l.first) (premise_number c l.second) (place_asked l.first) (place_asked l.second))
       | inr past ↦ subst Answered (sym (question_unknown past)) (λ page. line_unknown c page l past)
     ]
 
@@ -107,7 +107,7 @@ module _ (c : Case) where
         ∙ ap₂ (λ (rule : ℕ) (n : ℕ). page.verdict rule (numbered c.formulas n) (option_map (numbered c.formulas) q.first) (option_map (numbered c.formulas) q.second)) a.rule a.conclusion
         ∙ ap₂ (λ (o p : Option Formula). page.verdict l.rule (numbered c.formulas l.formula) o p) a.first.is a.second.is
 
-    -- a line that can be asked about, where there is room, comes to its verdict
+    -- a line that can be asked about, where there is room, is answered by its verdict
     module _ (page : Page) (q : Question) (is : question_for c l ≡ Ok q) where
       pub asked_full : 512 ≤ length c.lines → line c page l ≡ unchanged c (Err LinesFull)
       asked_full full = let a = question_asked q is in line_full c page l a.known a.placed full

@@ -1,4 +1,4 @@
--- The answer and the case of what a call comes to.
+-- The answer and the case of an outcome that is known.
 use Rattle.std.proofs.Common.{◌≡◌, ℕ, sym, ap}
 use Rattle.model.specs.Calls.{Outcome}
 

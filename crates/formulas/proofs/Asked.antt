@@ -8,7 +8,7 @@ use Rattle.formulas.specs.declared.entry.Entry.{Entry}
 use Rattle.formulas.specs.declared.entry.Entry.TheVariants.{False, Atom, Implies, Next, Always}
 use Rattle.formulas.specs.Entries.{placed, when_placed, asked, Lower}
 
--- an entry that is asked for may stand behind n others
+-- an entry that is asked for may stand after n others
 abbrev Fine : ℕ → Result Entry FormRefusal → Type 0
 Fine n r = (e : Entry) → r ≡ Ok e → placed n e ≡ true
 

@@ -30,7 +30,7 @@ right_of e = 0
 abbrev pub alike : Entry → Entry → Bool
 alike e f = kind_of e == kind_of f && (left_of e == left_of f && right_of e == right_of f)
 
--- whether an entry may stand behind n others: an atom is at most 31, and operands have lower numbers
+-- whether an entry may stand after n others: an atom is at most 31, and operands have lower numbers
 abbrev pub placed : ℕ → Entry → Bool
 placed n False = true
 placed n (Atom a) = nat_le a 31
@@ -62,6 +62,6 @@ asked n kind left right =
     else if kind == 4 then when_placed n (Always left) (right == 0)
     else Err UnknownKind
 
--- each entry stands behind its operands
+-- each entry stands after its operands
 abbrev pub Lower : List Entry → Type 0
 Lower es = (i : ℕ) → i < length es → placed i (slice_index_or es i False) ≡ true

@@ -7,7 +7,8 @@ use crate::refusal::FormRefusal;
 // Atoms are numbered from 0 up to this one.
 const LAST_ATOM: u16 = 31;
 
-// Operands by number, and no boxes: formulas share their parts, and nothing is allocated after a list is made.
+/// An entry: an atom by its number, 0 to 31, or operands by their numbers, which are lower than the entry's own.
+// by number, and no boxes: formulas share their parts, and nothing is allocated after a list is made
 #[derive(Clone, Copy, PartialEq, Eq, Debug)]
 pub enum Entry {
     False,
@@ -67,7 +68,7 @@ impl Entry {
         }
     }
 
-    // No lower number can be that of the entry: it stands behind its operands.
+    // No lower number can be that of the entry: it stands after its operands.
     pub(crate) fn lowest(self) -> usize
         ensures { (n : ℕ) → n < result → placed n self ≡ false }
     {

@@ -1,4 +1,4 @@
-// The formula list: entries that share their parts, no two alike, each behind its operands.
+// The formula list: entries that share their parts, no two alike, each after its operands.
 #![tactic(auto)]
 
 mod entry;

@@ -23,7 +23,7 @@ nth_there [] i h = absurd (omega arith)
 nth_there (y ∷ ys) zero h = (y, refl)
 nth_there (y ∷ ys) (suc i) h = nth_there ys i (omega arith)
 
--- more members behind those that are there
+-- more members after those that are there
 pub nth_append_left : {X : Type 0} (xs ys : List X) (i : ℕ) → i < length xs → slice_get (xs ++ ys) i ≡ slice_get xs i
 nth_append_left [] ys i h = absurd (omega arith)
 nth_append_left (x ∷ xs) ys zero h = refl

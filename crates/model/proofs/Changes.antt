@@ -19,7 +19,7 @@ use Rattle.model.specs.Lines.{place_held}
 use Rattle.model.specs.Judging as judging
 use Rattle.model.specs.Judging.{once_checked, true_at}
 use Rattle.model.specs.Describes.{Number, Describes}
-use Rattle.model.specs.Outcomes.{Absent, Forming, unknown_kind, bad_field, formula_there, formulas_full, formula_entered, Assuming, not_entered, assumption_there, assumptions_full, newly_assumed, Judgeable}
+use Rattle.model.specs.Outcomes.{Absent, FormEnds, unknown_kind, bad_field, formula_there, formulas_full, formula_entered, AssumeEnds, not_entered, assumption_there, assumptions_full, newly_assumed, Judgeable}
 use Rattle.model.specs.History.{Stage, Call, form, assume, truth, line, refute, after_call}
 use Rattle.model.proofs.Describing.{describes_one}
 use Rattle.model.proofs.Exact.{form_exact, assume_exact}
@@ -82,7 +82,7 @@ truth_changes_nothing c r f i n = by (judging.check c r f i n)
 pub changes : {s : Stage} (c : Case) (x : Call s) → Changes c x (Answered c x) (after_call c x)
 changes {s} c (form kind left right) = by (form_exact c kind left right)
   where
-    by : {o : Outcome ℕ} → Forming c kind left right o → Changes {s = s} c (form kind left right) (λ n. o.answer ≡ Ok n) o.after
+    by : {o : Outcome ℕ} → FormEnds c kind left right o → Changes {s = s} c (form kind left right) (λ n. o.answer ≡ Ok n) o.after
     by (unknown_kind k) = nothing c _ _
     by (bad_field k none) = nothing c _ _
     by (formula_there A d n there) = nothing c _ _
@@ -90,7 +90,7 @@ changes {s} c (form kind left right) = by (form_exact c kind left right)
     by (formula_entered A d none room) = record { formulas = one_more A (refl, (d, none, room)); assumptions = as_it_was; lines = as_it_was; refutations = as_it_was }
 changes c (assume f) = by (assume_exact c f)
   where
-    by : {o : Outcome ℕ} → Assuming c f o → Changes c (assume f) (λ k. o.answer ≡ Ok k) o.after
+    by : {o : Outcome ℕ} → AssumeEnds c f o → Changes c (assume f) (λ k. o.answer ≡ Ok k) o.after
     by (not_entered past) = nothing c _ _
     by (assumption_there f_in k there) = nothing c _ _
     by (assumptions_full f_in none most) = nothing c _ _
@@ -125,7 +125,7 @@ pub form_gives : (c : Case) (kind left right n : ℕ) (A : Formula) → (calls.f
     → Number (calls.form c kind left right).after.formulas n A
 form_gives c kind left right n A is d = by (form_exact c kind left right) is
   where
-    by : {o : Outcome ℕ} → Forming c kind left right o → o.answer ≡ Ok n → Number o.after.formulas n A
+    by : {o : Outcome ℕ} → FormEnds c kind left right o → o.answer ≡ Ok n → Number o.after.formulas n A
     by (unknown_kind k) is = absurd (ok_not_err (sym is))
     by (bad_field k none) is = absurd (ok_not_err (sym is))
     by (formula_there B b m there) is = subst (λ (k : ℕ). Number c.formulas k A) (ok_same is) (there ∙ ap Some (describes_one c.formulas kind left right B A b d))
@@ -137,7 +137,7 @@ form_gives c kind left right n A is d = by (form_exact c kind left right) is
 pub assume_gives : (c : Case) (f k : ℕ) → (calls.assume c f).answer ≡ Ok k → slice_get (calls.assume c f).after.assumptions k ≡ Some f
 assume_gives c f k is = by (assume_exact c f) is
   where
-    by : {o : Outcome ℕ} → Assuming c f o → o.answer ≡ Ok k → slice_get o.after.assumptions k ≡ Some f
+    by : {o : Outcome ℕ} → AssumeEnds c f o → o.answer ≡ Ok k → slice_get o.after.assumptions k ≡ Some f
     by (not_entered past) is = absurd (ok_not_err (sym is))
     by (assumption_there f_in m there) is = subst (λ (j : ℕ). slice_get c.assumptions j ≡ Some f) (ok_same is) there
     by (assumptions_full f_in none most) is = absurd (ok_not_err (sym is))

@@ -14,7 +14,7 @@ use Rattle.model.specs.History.{sealed_stage, Call, line, History, then, after, 
 use Rattle.model.specs.Entering.{Ready, Between, form_between, truth_between, refute_between, refused_between, entered_as, Entering, not_begun, other_call, next_line}
 use Rattle.model.specs.Promises.{DerivationsHeld, EnteredHeld, PublishedPagePublishes}
 use Rattle.model.proofs.Changes.{Answered, BringsLine, changes}
-use Rattle.model.proofs.NextLine.{Along, next_answers, next_along}
+use Rattle.model.proofs.NextLine.{HasFirst, next_answers, next_has_first}
 use Rattle.model.proofs.Histories.{call_keeps_formulas, formed_there, assumed_there, limits_kept}
 use Rattle.model.proofs.HeldLines.{lines_from}
 
@@ -39,7 +39,7 @@ one_number xs distinct i j x at_i at_j = elim (cases_lt i j) [
 ]
 
 module _ (D : Derivation) (h : History sealed_stage) where
-  -- behind the first n lines, what was formed and assumed before still is
+  -- once the first n lines were entered, what was formed and assumed before still is
   pub formed_still : {n : ℕ} {g : History sealed_stage} → Entering D h n g → (f : ℕ) (A : Formula) → Formed sealed_stage h f A → Formed sealed_stage g f A
   formed_still not_begun f A formed = formed
   formed_still (other_call e x b) f A formed = formed_earlier (formed_still e f A formed)
@@ -61,33 +61,33 @@ module _ (D : Derivation) (h : History sealed_stage) (ready : Ready D h) where
         (a.0, subst (λ (x : ℕ). slice_get (after g).assumptions a.0 ≡ Some x) same_number (assumed_there sealed_stage g a.0 a.1 (assumed_still D h e a.0 a.1 a.2)))
 
   -- a call that comes between leaves what is held of the derivation
-  along_between : {n : ℕ} (g : History sealed_stage) (x : Call sealed_stage) → Between g x → Along D n (after g) → Along D n (after (then g x))
-  along_between g x b along =
+  first_kept : {n : ℕ} (g : History sealed_stage) (x : Call sealed_stage) → Between g x → HasFirst D n (after g) → HasFirst D n (after (then g x))
+  first_kept g x b first =
       let same = between_lines g x b in
       record {
-        count = ap length same ∙ along.count;
+        count = ap length same ∙ first.count;
         matches = λ k l there.
-            let m = along.matches k l (subst (λ (ls : List Line). slice_get ls k ≡ Some l) same there) in
+            let m = first.matches k l (subst (λ (ls : List Line). slice_get ls k ≡ Some l) same there) in
             (m.0, m.1, call_keeps_formulas sealed_stage (after g) x l.formula m.0.formula m.2);
       }
 
   no_line : (k : ℕ) (l : Line) → slice_get (after h).lines k ≡ Some l → ⊥
   no_line k l there = ready.no_lines k l (lines_from sealed_stage h k l there)
 
-  -- behind the first n lines, the case has these and no others
-  along_all : {n : ℕ} {g : History sealed_stage} → Entering D h n g → Along D n (after g)
-  along_all not_begun =
+  -- once the first n lines were entered, the case has these and no others
+  has_first : {n : ℕ} {g : History sealed_stage} → Entering D h n g → HasFirst D n (after g)
+  has_first not_begun =
       let none : 0 < length (after h).lines → ⊥ = λ lt. let l = nth_there (after h).lines 0 lt in no_line 0 l.0 l.1 in
       record { count = omega (arith, none); matches = λ k l there. absurd (no_line k l there) }
-  along_all (other_call {g = g} e x b) = along_between g x b (along_all e)
-  along_all (next_line {n = n} {g = g} e s is page publishes f formed) =
+  has_first (other_call {g = g} e x b) = first_kept g x b (has_first e)
+  has_first (next_line {n = n} {g = g} e s is page publishes f formed) =
       let numbered = formed_there sealed_stage g f s.formula formed in
-      next_along D (along_all e) s is f numbered (assumed_by e f s.formula numbered) (ready.few_parts n s is) page publishes ready.short
+      next_has_first D (has_first e) s is f numbered (assumed_by e f s.formula numbered) (ready.few_parts n s is) page publishes ready.short
 
 pub derivations_held : DerivationsHeld
 derivations_held D h ready n g e s is f formed page publishes =
     let numbered = formed_there sealed_stage g f s.formula formed in
-    next_answers D (along_all D h ready e) s is f numbered (assumed_by D h ready e f s.formula numbered) (ready.few_parts n s is) page publishes ready.short
+    next_answers D (has_first D h ready e) s is f numbered (assumed_by D h ready e f s.formula numbered) (ready.few_parts n s is) page publishes ready.short
 
 -- the line that was entered last, or an earlier one
 entered_line : (D : Derivation) (h : History sealed_stage) → Ready D h → {m : ℕ} {g : History sealed_stage} → Entering D h m g
@@ -102,9 +102,9 @@ entered_line D h ready (next_line {n = m} {g = g} e t is page publishes f formed
       let here : m ≡ n = omega (arith, before, from) in
       let same : t ≡ s = some_same (sym is ∙ ap (slice_get D.steps) here ∙ at) in
       let held = derivations_held D h ready m g e t is f formed page publishes in
-      let behind : History sealed_stage = then g (line page (entered_as f t)) in
-      subst (λ (u : DerivationLine). (k : ℕ) × Formed sealed_stage behind k u.formula × HeldLine sealed_stage behind n (entered_as k u)) same
-      (f, formed_earlier formed, subst (λ (k : ℕ). HeldLine sealed_stage behind k (entered_as f t)) here (line_last held))
+      let longer : History sealed_stage = then g (line page (entered_as f t)) in
+      subst (λ (u : DerivationLine). (k : ℕ) × Formed sealed_stage longer k u.formula × HeldLine sealed_stage longer n (entered_as k u)) same
+      (f, formed_earlier formed, subst (λ (k : ℕ). HeldLine sealed_stage longer k (entered_as f t)) here (line_last held))
 ]
 
 pub entered_held : EnteredHeld

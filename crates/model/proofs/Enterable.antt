@@ -12,7 +12,7 @@ use Rattle.lists.proofs.Growing.{grown_keeps, grown_same}
 use Rattle.model.specs.Calls.{Outcome}
 use Rattle.model.specs.Case.{Case}
 use Rattle.model.specs.Describes.{Number, Describes, false_kind, atom_kind, implies_kind, next_kind, always_kind}
-use Rattle.model.specs.Outcomes.{Absent, Forming, unknown_kind, bad_field, formula_there, formulas_full, formula_entered, Assuming, not_entered, assumption_there, assumptions_full, newly_assumed}
+use Rattle.model.specs.Outcomes.{Absent, FormEnds, unknown_kind, bad_field, formula_there, formulas_full, formula_entered, AssumeEnds, not_entered, assumption_there, assumptions_full, newly_assumed}
 use Rattle.model.specs.History.{open_stage, sealed_stage, form, assume, line, History, new, then, then_seal, after, Formed}
 use Rattle.model.specs.Entering.{Publishes, Ready, entered_as, Entering, not_begun, next_line, WithinLimits}
 use Rattle.model.specs.Promises.{DerivationsCanBeEntered}
@@ -34,7 +34,7 @@ known_kind (always_kind l A left) = omega arith
 
 -- a new formula that is described is entered, if there is room
 new_entered : (c : Case) (kind left right : ℕ) (A : Formula) → Describes c.formulas kind left right A → Absent c.formulas A → length c.formulas < 1024
-    → {o : Outcome ℕ} → Forming c kind left right o → o.after.formulas ≡ c.formulas ++ A ∷ []
+    → {o : Outcome ℕ} → FormEnds c kind left right o → o.after.formulas ≡ c.formulas ++ A ∷ []
 new_entered c kind left right A d none room (unknown_kind above) = absurd (omega (arith, known_kind d, above))
 new_entered c kind left right A d none room (bad_field known undescribed) = absurd (undescribed A d)
 new_entered c kind left right A d none room (formula_there B b n there) = absurd (none n (there ∙ ap Some (describes_one c.formulas kind left right B A b d)))
@@ -43,7 +43,7 @@ new_entered c kind left right A d none room (formula_entered B b absent few) =
     ap (λ (X : Formula). c.formulas ++ X ∷ []) (describes_one c.formulas kind left right B A b d)
 
 -- an entered formula is then assumed, if there is room, and there is at most one more assumption
-now_assumed : (c : Case) (f : ℕ) → f < length c.formulas → length c.assumptions < 16 → {o : Outcome ℕ} → Assuming c f o
+now_assumed : (c : Case) (f : ℕ) → f < length c.formulas → length c.assumptions < 16 → {o : Outcome ℕ} → AssumeEnds c f o
     → (j : ℕ) × (slice_get o.after.assumptions j ≡ Some f) × (length o.after.assumptions ≤ suc (length c.assumptions))
 now_assumed c f f_in room (not_entered past) = absurd (omega (arith, f_in, past))
 now_assumed c f f_in room (assumption_there known k there) = (k, there, omega arith)
@@ -134,7 +134,7 @@ module _ (D : Derivation) (fs : List Formula) (limits : WithinLimits D fs) where
   first_assumed zero within = all_formed
   first_assumed (suc n) within = assume_next n (omega arith) (first_assumed n (omega arith))
 
-  -- behind all of these and a seal, the case is ready
+  -- after all of these and a seal, the case is ready
   abbrev before_seal : FirstAssumed (length D.assumptions)
   before_seal = first_assumed (length D.assumptions) (omega arith)
 
@@ -157,7 +157,7 @@ module _ (D : Derivation) (fs : List Formula) (limits : WithinLimits D fs) where
   }
 
   module _ (page : Page) (publishes : (n : ℕ) (s : DerivationLine) → slice_get D.steps n ≡ Some s → Publishes page s.rule) where
-    -- a history that entered the first n lines behind it
+    -- a history that entered the first n lines after it
     record FirstEntered (n : ℕ) : Type 0 where
       pub history : History sealed_stage
       pub entering : Entering D start n history

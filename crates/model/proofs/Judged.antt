@@ -23,7 +23,7 @@ use Rattle.model.specs.Judging.{check, once_checked, words_once_checked, true_at
 use Rattle.model.specs.Describes.{Number}
 use Rattle.model.specs.Limits.{AssumptionsEntered}
 use Rattle.model.specs.Breaking.{Assumes, Keeps, Breaks}
-use Rattle.model.specs.Outcomes.{Judgeable, Unjudgeable, formula_unknown, run_too_long, past_run, scratch_too_short, Telling, not_told, told_true, told_false, FirstFailure, Refuting, not_judged, refutations_full, assumption_fails, formula_holds, newly_held}
+use Rattle.model.specs.Outcomes.{Judgeable, Unjudgeable, formula_unknown, run_too_long, past_run, scratch_too_short, TruthEnds, not_told, told_true, told_false, FirstFailure, RefuteEnds, not_judged, refutations_full, assumption_fails, formula_holds, newly_held}
 use Rattle.model.specs.Promises.{TruthExact, RefuteExact, RowsTell}
 use Rattle.model.proofs.Describing.{numbered_is}
 
@@ -51,12 +51,12 @@ module _ (c : Case) (r : Run) (f i : ℕ) where
 
   module _ (words : List ℕ) where
     telling : Judgeable c r f i (length words) → (b : Bool) → true_at c r f i ≡ b
-        → Telling c r f i words (unchanged c (Ok b)) (with_rows r c.formulas words)
+        → TruthEnds c r f i words (unchanged c (Ok b)) (with_rows r c.formulas words)
     telling judgeable true is = told_true judgeable (numbered c.formulas f) (entered_number c.formulas f judgeable.entered) ((decides r (numbered c.formulas f) i).0 is)
     telling judgeable false is = told_false judgeable (numbered c.formulas f) (entered_number c.formulas f judgeable.entered) (fails r (numbered c.formulas f) i is)
 
     truth_by : (k : Result (Unit {0}) Refusal) → Checked (length words) k
-        → Telling c r f i words (once_checked c k (unchanged c (Ok (true_at c r f i)))) (words_once_checked words k (with_rows r c.formulas words))
+        → TruthEnds c r f i words (once_checked c k (unchanged c (Ok (true_at c r f i)))) (words_once_checked words k (with_rows r c.formulas words))
     truth_by (Ok done) judgeable = telling judgeable (true_at c r f i) refl
     truth_by (Err e) unjudgeable = not_told e unjudgeable
 
@@ -122,18 +122,18 @@ module _ (c : Case) (entered : AssumptionsEntered c.formulas c.assumptions) (r :
 
   module _ (f i : ℕ) (words : List ℕ) where
     by_verdict : Judgeable c r f i (length words) → length c.refutations < 64 → (o : Option (ℕ × ℕ)) → first_failing (true_at c r) (r.stem + r.loop) 0 c.assumptions ≡ o
-        → Refuting c r f i words (held_by c f i (judged_by o (true_at c r f i))) (with_rows r c.formulas words)
+        → RefuteEnds c r f i words (held_by c f i (judged_by o (true_at c r f i))) (with_rows r c.formulas words)
     by_verdict can room (Some x) is = assumption_fails can room x.0 x.1 (first_failure x.0 x.1 is)
     by_verdict can room None is =
-        cond_both (true_at c r f i) (Err FormulaTrue) (Ok tt) (λ v. Refuting c r f i words (held_by c f i v) (with_rows r c.formulas words))
+        cond_both (true_at c r f i) (Err FormulaTrue) (Ok tt) (λ v. RefuteEnds c r f i words (held_by c f i v) (with_rows r c.formulas words))
         (λ true_there. formula_holds can room (keeps is) (numbered c.formulas f) (entered_number c.formulas f can.entered) ((decides r (numbered c.formulas f) i).0 true_there))
         (λ false_there. newly_held can room (breaking f i can.entered is false_there))
 
-    by_goes : {o : Outcome ℕ} {left : List ℕ → List ℕ} → RefuteGoes c r f i (length words) o left → Refuting c r f i words o (left words)
+    by_goes : {o : Outcome ℕ} {left : List ℕ → List ℕ} → RefuteGoes c r f i (length words) o left → RefuteEnds c r f i words o (left words)
     by_goes (unjudged e cannot) = not_judged e cannot
     by_goes (full can most) = refutations_full can most
     by_goes (judged can room v is) =
-        subst (λ u. Refuting c r f i words (held_by c f i u) (with_rows r c.formulas words)) is
+        subst (λ u. RefuteEnds c r f i words (held_by c f i u) (with_rows r c.formulas words)) is
         (by_verdict can room (first_failing (true_at c r) (r.stem + r.loop) 0 c.assumptions) refl)
 
 pub refute_exact : RefuteExact

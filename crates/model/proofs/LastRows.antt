@@ -1,4 +1,4 @@
--- What one call leaves of the scratch words, and how calls behind it write over that.
+-- What one call leaves of the scratch words, and how later calls write over that.
 use Rattle.std.proofs.Common.{◌≡◌, ℕ, ◌<◌, ◌≤◌, List, ◌∷◌, length, Some, None, Option, refl, ◌∙◌, arith}
 use Rattle.refusals.specs.declared.Refusal.{Refusal}
 use Rattle.logic.specs.Formula.{Formula}
@@ -62,7 +62,7 @@ module _ (c : Case) (r : Run) (f i : ℕ) where
     unfolding refute_scratch
     refute_leaves = by_goes (refute_goes c r f i (length words))
 
--- ---- the calls behind it
+-- ---- the calls after it
 
 -- no call takes formulas away
 formulas_stay : {s : Stage} (c : Case) (x : Call s) → length c.formulas ≤ length (after_call c x).formulas
@@ -91,8 +91,8 @@ module _ {s : Stage} {c : Case} {x : Call s} {xs : List (Call s)} {words : List 
   refused_leaves e is (leaves_all none) = (None, refused_unwritten e is none, refl)
 
   module _ (answered : (e : Refusal) → Refused c x e → ⊥) where
-    by_last : {left behind : List ℕ} → Leaves s c x words left → (last : Option (Run × List Formula)) → LastRows s (after_call c x) xs last → behind ≡ with_last last left
-        → RowsLeft s c (x ∷ xs) words behind
+    by_last : {left ending : List ℕ} → Leaves s c x words left → (last : Option (Run × List Formula)) → LastRows s (after_call c x) xs last → ending ≡ with_last last left
+        → RowsLeft s c (x ∷ xs) words ending
     by_last (leaves_rows {r = r} w) None rows is = (Some (r, c.formulas), answered_writing answered w rows, is)
     by_last (leaves_rows {r = r} w) (Some last) rows is =
         let all = answered_before answered rows in
@@ -100,5 +100,5 @@ module _ {s : Stage} {c : Case} {x : Call s} {xs : List (Call s)} {words : List 
     by_last (leaves_all none) None rows is = (None, answered_unwritten answered none rows, is)
     by_last (leaves_all none) (Some last) rows is = (Some last, answered_before answered rows, is)
 
-    pub answered_leaves : {left behind : List ℕ} → Leaves s c x words left → RowsLeft s (after_call c x) xs left behind → RowsLeft s c (x ∷ xs) words behind
+    pub answered_leaves : {left ending : List ℕ} → Leaves s c x words left → RowsLeft s (after_call c x) xs left ending → RowsLeft s c (x ∷ xs) words ending
     answered_leaves leaves rest = by_last leaves rest.0 rest.1 rest.2

@@ -5,7 +5,7 @@ pub mod Checks
 pub mod LineGoes
 pub mod Judged
 pub mod AssumptionLines
-pub mod Lining
+pub mod LineRelation
 pub mod Changes
 pub mod Histories
 pub mod Reading

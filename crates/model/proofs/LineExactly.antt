@@ -21,7 +21,7 @@ use Rattle.model.proofs.Describing.{numbered_is}
 use Rattle.model.proofs.AssumptionLines.{assumption_admitted, assumption_admits}
 use Rattle.model.proofs.LineGoes.{Allowed, line_allowed}
 use Rattle.model.proofs.Checks.{line_judged_as}
-use Rattle.model.proofs.Lining.{stated}
+use Rattle.model.proofs.LineRelation.{stated}
 
 -- the axioms and rules have the numbers 1 to 7
 pub rule_number : {rule : ℕ} {X : Formula} {P Q : Option Formula} → Gives rule X P Q → (1 ≤ rule) × (rule ≤ 7)

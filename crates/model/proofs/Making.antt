@@ -6,7 +6,7 @@ use Rattle.model.specs.History.{Stage, Call, History, then, after_call, after, R
 use Rattle.model.specs.Making.{Makes, nothing_made, refused_made, answered_made, OneMade}
 
 module _ (s : Stage) where
-  -- made behind a history, calls make one that ends in a case
+  -- made after a history, calls make one that ends in a case
   abbrev pub MakesCase : History s → List (Call s) → Case → Type 0
   MakesCase h xs d = (g : History s) × Makes s h xs g × (d ≡ after g)
 

@@ -20,20 +20,20 @@ use Rattle.model.proofs.LineExactly.{rule_number, page_verdict, assumption_line_
 
 module _ (D : Derivation) where
   -- a case has the first n lines of a derivation, and no others: each has the formula of the derivation's line with the same number
-  pub record Along (n : ℕ) (c : Case) : Type 0 where
+  pub record HasFirst (n : ℕ) (c : Case) : Type 0 where
     pub count : length c.lines ≡ n
     pub matches : (k : ℕ) (l : Line) → slice_get c.lines k ≡ Some l → (s : DerivationLine) × (slice_get D.steps k ≡ Some s) × Number c.formulas l.formula s.formula
 
   -- s is the line that comes next, its formula has the number f, and if it is an assumption of the derivation, then f is one of the case
-  module _ {n : ℕ} {c : Case} (along : Along n c) (s : DerivationLine) (is : slice_get D.steps n ≡ Some s) (f : ℕ) (numbered : Number c.formulas f s.formula)
+  module _ {n : ℕ} {c : Case} (has : HasFirst n c) (s : DerivationLine) (is : slice_get D.steps n ≡ Some s) (f : ℕ) (numbered : Number c.formulas f s.formula)
       (assumed : (k : ℕ) → slice_get D.assumptions k ≡ Some s.formula → (j : ℕ) × (slice_get c.assumptions j ≡ Some f))
       (few : s.rule ≡ 1 → length (prime_parts s.formula) ≤ 12) where
     -- its premises are on lines of the case
     premise : {p : Option ℕ} {P : Option Formula} → PremiseOf D.steps n p P → Premise c p P
     premise no_premise_of = no_premise
     premise (on_earlier k t before there) =
-        let l = nth_there c.lines k (omega (arith, along.count)) in
-        let m = along.matches k l.0 l.1 in
+        let l = nth_there c.lines k (omega (arith, has.count)) in
+        let m = has.matches k l.0 l.1 in
         let same_step : m.0 ≡ t = some_same (sym m.1 ∙ there) in
         on_line k l.0 t.formula l.1 (subst (λ (u : DerivationLine). Number c.formulas l.0.formula u.formula) same_step m.2)
 
@@ -78,20 +78,20 @@ module _ (D : Derivation) where
         pub next_held : line c page (entered_as f s) ≡ line_held c (entered_as f s)
         next_held =
             let a = justified_admits (D.justified n s is) in
-            stated_held c page (entered_as f s) a.stated (omega (arith, along.count, nth_within D.steps n is)) a.admitted
+            stated_held c page (entered_as f s) a.stated (omega (arith, has.count, nth_within D.steps n is)) a.admitted
 
         -- its number is the next one
         pub next_answers : (line c page (entered_as f s)).answer ≡ Ok n
-        next_answers = ap (λ o. o.answer) next_held ∙ ap Ok along.count
+        next_answers = ap (λ o. o.answer) next_held ∙ ap Ok has.count
 
         -- and the case has one more line of the derivation
-        pub next_along : Along (suc n) (line c page (entered_as f s)).after
-        next_along = rw next_held (record {
-          count = omega (arith, length_push c.lines (entered_as f s), along.count);
+        pub next_has_first : HasFirst (suc n) (line c page (entered_as f s)).after
+        next_has_first = rw next_held (record {
+          count = omega (arith, length_push c.lines (entered_as f s), has.count);
           matches = λ k l there. elim (nth_pushed c.lines (entered_as f s) k l there) [
-            | inl old ↦ along.matches k l old
+            | inl old ↦ has.matches k l old
             | inr new ↦
-                let at : n ≡ k = sym along.count ∙ new.0 in
+                let at : n ≡ k = sym has.count ∙ new.0 in
                 (s, sym (ap (slice_get D.steps) at) ∙ is, subst (λ (m : Line). Number c.formulas m.formula s.formula) new.1 numbered)
           ];
         })

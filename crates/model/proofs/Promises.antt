@@ -2,7 +2,7 @@
 use Rattle.truths.proofs.Along.{rest_stays}
 use Rattle.model.specs.Promises.{Promises}
 use Rattle.model.proofs.Exact.{form_exact, assume_exact}
-use Rattle.model.proofs.Lining.{line_exact}
+use Rattle.model.proofs.LineRelation.{line_exact}
 use Rattle.model.proofs.LineExactly.{line_held_exactly}
 use Rattle.model.proofs.Judged.{truth_exact, refute_exact, rows_tell}
 use Rattle.model.proofs.RefutationExactly.{refutation_held_exactly}

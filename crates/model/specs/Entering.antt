@@ -36,7 +36,7 @@ pub data Between (h : History sealed_stage) : Call sealed_stage → Type 0 where
   refute_between : (r : Run) (f i n : ℕ) → Between h (refute r f i n)
   refused_between : (page : Page) (l : Line) (e : Refusal) → Refused (after h) (line page l) e → Between h (line page l)
 
--- behind the history h the first n lines of a derivation were entered in order, each under a page with the published verdict on its rule, and with other calls in between; this made the history g
+-- after the history h the first n lines of a derivation were entered in order, each under a page with the published verdict on its rule, and with other calls in between; this made the history g
 pub data Entering (D : Derivation) (h : History sealed_stage) : ℕ → History sealed_stage → Type 0 where
   not_begun : Entering D h 0 h
   other_call : {n : ℕ} {g : History sealed_stage} → Entering D h n g → (x : Call sealed_stage) → Between g x → Entering D h n (then g x)

@@ -19,12 +19,12 @@ check c r f i n =
     else if nat_lt n (4 * length c.formulas) then Err ScratchTooShort
     else Ok tt
 
--- what comes behind the checks: where one of them refuses, the case stays as it is, and so do the scratch words, below
+-- what comes after the checks: where one of them refuses, the case stays as it is, and so do the scratch words, below
 abbrev pub once_checked : {A : Type 0} → Case → Result (Unit {0}) Refusal → Outcome A → Outcome A
 once_checked c (Ok done) rest = rest
 once_checked c (Err e) rest = unchanged c (Err e)
 
--- the scratch words behind the checks
+-- the scratch words after the checks
 abbrev pub words_once_checked : List ℕ → Result (Unit {0}) Refusal → List ℕ → List ℕ
 words_once_checked words (Ok done) rest = rest
 words_once_checked words (Err e) rest = words

@@ -24,7 +24,7 @@ use Rattle.model.specs.Lines as lines
 use Rattle.model.specs.Judging as judging
 use Rattle.model.specs.Describes.{Number, Describes}
 use Rattle.model.specs.Breaking.{Breaks}
-use Rattle.model.specs.Outcomes.{Forming, Assuming, Stated, StatesAssumption, Lining, Judgeable, Telling, Refuting}
+use Rattle.model.specs.Outcomes.{FormEnds, AssumeEnds, Stated, StatesAssumption, LineEnds, Judgeable, TruthEnds, RefuteEnds}
 use Rattle.model.specs.Reads.{counts_of, entry_in, assumption_in, line_in, refutation_in, standing_in}
 use Rattle.model.specs.History.{Stage, sealed_stage, Call, History, after_call, Refused, after, Formed, Assumed, HeldLine, HeldRefutation}
 use Rattle.model.specs.Limits.{AssumptionsEntered, LinesEntered, Limits}
@@ -32,15 +32,15 @@ use Rattle.model.specs.Entering.{Publishes, Ready, entered_as, Entering, WithinL
 
 -- form does what the relation says, on every case
 abbrev pub FormExact : Type 0
-FormExact = (c : Case) (kind left right : ℕ) → Forming c kind left right (calls.form c kind left right)
+FormExact = (c : Case) (kind left right : ℕ) → FormEnds c kind left right (calls.form c kind left right)
 
 -- assume does what the relation says, on every case
 abbrev pub AssumeExact : Type 0
-AssumeExact = (c : Case) (f : ℕ) → Assuming c f (calls.assume c f)
+AssumeExact = (c : Case) (f : ℕ) → AssumeEnds c f (calls.assume c f)
 
 -- line does what the relation says, on every case whose lines have entered formulas, as after all histories
 abbrev pub LineExact : Type 0
-LineExact = (c : Case) → LinesEntered c.formulas c.lines → (page : Page) (l : Line) → Lining c page l (lines.line c page l)
+LineExact = (c : Case) → LinesEntered c.formulas c.lines → (page : Page) (l : Line) → LineEnds c page l (lines.line c page l)
 
 -- the calculus gives a line: it states an assumption by rule 0, or its rule gives its formula from those on the lines at its places, a tautology if it has at most twelve prime parts
 pub data CalculusGives (c : Case) (l : Line) : Type 0 where
@@ -55,12 +55,12 @@ LineHeldExactly = (c : Case) → LinesEntered c.formulas c.lines → (page : Pag
 -- truth does what the relation says, on every case
 abbrev pub TruthExact : Type 0
 TruthExact = (c : Case) (r : Run) (f i : ℕ) (words : List ℕ)
-    → Telling c r f i words (judging.truth c r f i (length words)) (judging.truth_scratch c r f i words)
+    → TruthEnds c r f i words (judging.truth c r f i (length words)) (judging.truth_scratch c r f i words)
 
 -- refute does what the relation says, on every case whose assumptions are entered, as after all histories
 abbrev pub RefuteExact : Type 0
 RefuteExact = (c : Case) → AssumptionsEntered c.formulas c.assumptions → (r : Run) (f i : ℕ) (words : List ℕ)
-    → Refuting c r f i words (judging.refute c r f i (length words)) (judging.refute_scratch c r f i words)
+    → RefuteEnds c r f i words (judging.refute c r f i (length words)) (judging.refute_scratch c r f i words)
 
 -- a refutation is held exactly when it can be judged, there is room, and the run keeps the assumptions and breaks the formula; its number is the next one
 abbrev pub RefutationHeldExactly : Type 0
@@ -73,7 +73,7 @@ abbrev pub RowsTell : Type 0
 RowsTell = (r : Run) (fs : List Formula) (words : List ℕ) (f i : ℕ) (A : Formula) → r.stem + r.loop ≤ 256 → Number fs f A
     → (row_says (with_rows r fs words) f i ≡ true) ↔ ((i < r.stem + r.loop) × Holds r A i)
 
--- and the words behind the rows are as they were
+-- and the words after the rows are as they were
 abbrev pub RestStays : Type 0
 RestStays = (r : Run) (fs : List Formula) (words : List ℕ) → drop (4 * length fs) (with_rows r fs words) ≡ drop (4 * length fs) words
 
@@ -124,7 +124,7 @@ EnteredHeld = (D : Derivation) (h : History sealed_stage) → Ready D h → (m :
 abbrev pub PublishedPagePublishes : Type 0
 PublishedPagePublishes = (rule : ℕ) → rule ≤ 7 → Publishes published_page rule
 
--- and a derivation that keeps to the limits of a case can be entered: there is a history that makes a case ready for it, and one behind that which enters all its lines under a given page with the published verdicts on their rules, so that each is held by its number
+-- and a derivation that keeps to the limits of a case can be entered: there is a history that makes a case ready for it, and a longer one which enters all its lines under a given page with the published verdicts on their rules, so that each is held by its number
 abbrev pub DerivationsCanBeEntered : Type 0
 DerivationsCanBeEntered = (D : Derivation) (fs : List Formula) → WithinLimits D fs
     → (page : Page) → ((n : ℕ) (s : DerivationLine) → slice_get D.steps n ≡ Some s → Publishes page s.rule)
@@ -151,7 +151,7 @@ CountsTell = (s : Stage) (h : History s) (n : ℕ)
     × ((n < (counts_of (after h)).lines) ↔ ((l : Line) × HeldLine s h n l))
     × ((n < (counts_of (after h)).refutations) ↔ ((f : ℕ) × (i : ℕ) × (r : Run) × HeldRefutation s h n f i r))
 
--- after every history, so many scratch words are enough for truth and refute
+-- after every history, this many scratch words are enough for truth and refute
 abbrev pub ScratchSuffices : ℕ → Type 0
 ScratchSuffices most = (s : Stage) (h : History s) (r : Run) (f i n : ℕ) → most ≤ n
     → ((judging.truth (after h) r f i n).answer ≢ Err ScratchTooShort) × ((judging.refute (after h) r f i n).answer ≢ Err ScratchTooShort)

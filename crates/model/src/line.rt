@@ -1,4 +1,6 @@
-// A line of a derivation: a rule, a formula, by its number, and two places, each the number of a held line or empty.
+// A line of a derivation.
+
+/// A line: a rule's number, a formula's number, and two places, each the number of a held line or empty.
 #[derive(Clone, Copy, PartialEq, Eq, Debug)]
 pub struct Line {
     pub rule: u16,

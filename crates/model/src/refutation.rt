@@ -1,4 +1,6 @@
-// A held refutation: a formula, by its number, and a position at which a run makes it false.
+// A refutation.
+
+/// A refutation: a formula's number, and a position, from 0, at which a run makes the formula false.
 #[derive(Clone, Copy, PartialEq, Eq, Debug)]
 pub struct Refutation {
     pub formula: u16,

@@ -12,7 +12,7 @@ use Rattle.model.specs.Case.{Case}
 use Rattle.model.specs.Calls.{Outcome, unchanged}
 use Rattle.model.specs.Lines.{place_held, premise, assumption_verdict, line_verdict, line_by}
 use Rattle.model.specs.Limits.{LinesEntered}
-use Rattle.model.specs.Outcomes.{Premise, no_premise, on_line, Stated, Lining, formula_not_entered, place_not_held, lines_full, assumption_line, no_assumption, page_admits, page_does_not_admit, page_beyond_limit}
+use Rattle.model.specs.Outcomes.{Premise, no_premise, on_line, Stated, LineEnds, formula_not_entered, place_not_held, lines_full, assumption_line, no_assumption, page_admits, page_does_not_admit, page_beyond_limit}
 use Rattle.model.specs.Promises.{LineExact}
 use Rattle.model.proofs.Judged.{entered_number}
 use Rattle.model.proofs.LineGoes.{Placed, LineGoes, unknown, unplaced, full, judged, line_goes}
@@ -45,7 +45,7 @@ module _ (c : Case) (entered : LinesEntered c.formulas c.lines) where
           second_is = premise_is l.second p.1;
         }
 
-    place_missing : l.formula < length c.formulas → (place_held c l.first && place_held c l.second) ≡ false → Lining c page l (unchanged c (Err LineNotHeld))
+    place_missing : l.formula < length c.formulas → (place_held c l.first && place_held c l.second) ≡ false → LineEnds c page l (unchanged c (Err LineNotHeld))
     place_missing known not_placed = elim (cases_Bool (place_held c l.first)) [
       | inr first ↦ let k = unheld c l.first first in place_not_held known k.0 (inl k.1) k.2
       | inl first ↦ elim (cases_Bool (place_held c l.second)) [
@@ -58,16 +58,16 @@ module _ (c : Case) (entered : LinesEntered c.formulas c.lines) where
       abbrev s : Stated c l
       s = stated known placed
 
-      by_page : (eqb l.rule 0 ≡ false) → (v : Verdict) → page.verdict l.rule s.formula s.first s.second ≡ v → Lining c page l (line_by c l v)
+      by_page : (eqb l.rule 0 ≡ false) → (v : Verdict) → page.verdict l.rule s.formula s.first s.second ≡ v → LineEnds c page l (line_by c l v)
       by_page other Admitted is = page_admits s room (eqb-false l.rule 0 other) is
       by_page other NotAdmitted is = page_does_not_admit s room (eqb-false l.rule 0 other) is
       by_page other BeyondLimit is = page_beyond_limit s room (eqb-false l.rule 0 other) is
 
-      by_rule : Lining c page l (line_by c l (line_verdict c page l))
+      by_rule : LineEnds c page l (line_by c l (line_verdict c page l))
       unfolding stated
       by_rule =
-          cond_both (eqb l.rule 0) (assumption_verdict c l) (page.verdict l.rule s.formula s.first s.second) (λ v. Lining c page l (line_by c l v))
-          (λ zero. cond_both (states c l) Admitted NotAdmitted (λ v. Lining c page l (line_by c l v))
+          cond_both (eqb l.rule 0) (assumption_verdict c l) (page.verdict l.rule s.formula s.first s.second) (λ v. LineEnds c page l (line_by c l v))
+          (λ zero. cond_both (states c l) Admitted NotAdmitted (λ v. LineEnds c page l (line_by c l v))
           (λ t. assumption_line s room (states_assumption c l (eqb-true l.rule 0 zero) t))
           (λ f. no_assumption s room (eqb-true l.rule 0 zero) (λ a. true≢false (sym (stated_tested c l a) ∙ f))))
           (λ other. by_page other (page.verdict l.rule s.formula s.first s.second) refl)
@@ -75,8 +75,8 @@ module _ (c : Case) (entered : LinesEntered c.formulas c.lines) where
 pub line_exact : LineExact
 line_exact c entered page l = by (line_goes c page l)
   where
-    by : {o : Outcome ℕ} → LineGoes c page l o → Lining c page l o
+    by : {o : Outcome ℕ} → LineGoes c page l o → LineEnds c page l o
     by (unknown past) = formula_not_entered past
     by (unplaced known at) = place_missing c entered page l known at
     by (full known placed most) = lines_full (stated c entered page l known placed) most
-    by (judged known placed room v is) = subst (λ u. Lining c page l (line_by c l u)) is (by_rule c entered page l known placed room)
+    by (judged known placed room v is) = subst (λ u. LineEnds c page l (line_by c l u)) is (by_rule c entered page l known placed room)
