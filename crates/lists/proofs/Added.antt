@@ -3,10 +3,10 @@ use Rattle.std.proofs.Common.{◌≡◌, ℕ, ◌<◌, ◌≤◌, Bool, true, fa
 use Rattle.std.specs.List.{slice_get}
 use Rattle.std.specs.Option.{ok_or}
 use Rattle.std.proofs.lemmas.List.{length_push}
-use Rattle.std.proofs.lemmas.Bool.{cond_both, cond-true, ltb-true, lt-ltb}
+use Rattle.std.proofs.lemmas.Bool.{cond_both, cond-true, ltb-true, ltb-false, lt-ltb}
 use Rattle.lists.specs.Adding.{Distinct, place, number_for, add_answer, add_after}
 use Rattle.lists.proofs.Members.{distinct_push, every_push}
-use Rattle.lists.proofs.Places.{IsEquality, none_there}
+use Rattle.lists.proofs.Places.{IsEquality, place_is, none_there}
 
 -- no list gets shorter
 pub add_longer : {X : Type 0} (most : ℕ) (xs : List X) (x : X) (o : Option ℕ) → length xs ≤ length (add_after most xs x o)
@@ -50,3 +50,21 @@ pub add_every : {X : Type 0} (P : X → Type 0) (most : ℕ) (xs : List X) (x : 
 add_every P most xs x (Some i) old here = old
 add_every P most xs x None old here =
     cond_both (ltb (length xs) most) (xs ++ x ∷ []) xs (λ ys. (k : ℕ) (y : _) → slice_get ys k ≡ Some y → P y) (λ _. every_push P xs x old here) (λ _. old)
+
+-- how adding to a list without repeats ends: what is added is there; it is new and the list is full; or it is put at the end
+pub data AddEnds {X E : Type 0} (most : ℕ) (full : E) (xs : List X) (x : X) : Result ℕ E → List X → Type 0 where
+  already_there : (k : ℕ) → slice_get xs k ≡ Some x → AddEnds most full xs x (Ok k) xs
+  no_room : ((k : ℕ) → slice_get xs k ≡ Some x → ⊥) → most ≤ length xs → AddEnds most full xs x (Err full) xs
+  added : ((k : ℕ) → slice_get xs k ≡ Some x → ⊥) → length xs < most → AddEnds most full xs x (Ok (length xs)) (xs ++ x ∷ [])
+
+pub add_ends : {X E : Type 0} (eq : X → X → Bool) → IsEquality eq → (most : ℕ) (full : E) (xs : List X) (x : X)
+    → AddEnds most full xs x (add_answer most full xs (place eq xs x)) (add_after most xs x (place eq xs x))
+add_ends {X} eq tells most full xs x = by (place eq xs x) refl
+  where
+    by : (o : Option ℕ) → place eq xs x ≡ o → AddEnds most full xs x (add_answer most full xs o) (add_after most xs x o)
+    by (Some k) found = already_there k (place_is eq tells xs x k found)
+    by None found = by_room (ltb (length xs) most) refl
+      where
+        by_room : (b : Bool) → ltb (length xs) most ≡ b → AddEnds most full xs x (cond b (Ok (length xs)) (Err full)) (cond b (xs ++ x ∷ []) xs)
+        by_room true room = added (none_there eq tells xs x found) (ltb-true (length xs) most room)
+        by_room false room = no_room (none_there eq tells xs x found) (ltb-false (length xs) most room)

@@ -12,7 +12,7 @@ use Rattle.model.specs.Case.{Case}
 use Rattle.model.specs.Calls.{Outcome}
 use Rattle.model.specs.Judging.{refute_scratch}
 use Rattle.model.specs.Outcomes.{Judgeable, Unjudgeable, formula_unknown, run_too_long, past_run, scratch_too_short}
-use Rattle.model.specs.History.{Stage, sealed_stage, Call, form, assume, truth, line, refute, after_call, Refused}
+use Rattle.model.specs.History.{Stage, sealed_stage, Call, form, truth, line, refute, after_call, Refused}
 use Rattle.model.specs.LastRows.{WritesRows, truth_writes, refute_writes, LastRows, no_call, refused_writing, refused_unwritten, answered_before, answered_writing, answered_unwritten, with_last}
 use Rattle.model.proofs.Judged.{RefuteGoes, unjudged, full, judged, refute_goes}
 use Rattle.model.proofs.Changes.{changes}
@@ -26,11 +26,9 @@ pub data Leaves (s : Stage) (c : Case) (x : Call s) (words : List ℕ) : List �
 
 -- what a call that writes rows needs
 abbrev Writable : {s : Stage} → Case → Call s → Type 0
-Writable c (form kind left right) = ⊥
-Writable c (assume f) = ⊥
 Writable c (truth r f i n) = Judgeable c r f i n
-Writable c (line page l) = ⊥
 Writable c (refute r f i n) = Judgeable c r f i n × (length c.refutations < 64)
+Writable c x = ⊥
 
 writable : {s : Stage} {c : Case} {x : Call s} {r : Run} → WritesRows c s x r → Writable c x
 writable (truth_writes judgeable) = judgeable
