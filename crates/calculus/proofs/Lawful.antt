@@ -1,16 +1,16 @@
 -- The laws of the rules and of the two pages: what they give or admit holds on each run on which its premises do.
-use Rattle.std.proofs.Common.{◌≡◌, ℕ, Option, sym, subst, inl, inr}
+use Rattle.std.proofs.Common.{◌≡◌, ℕ, Option, inl, inr}
 use Rattle.logic.specs.Formula.{Formula}
 use Rattle.logic.specs.Run.{Run}
 use Rattle.logic.specs.Truth.{Throughout}
 use Rattle.calculus.specs.declared.verdict.Verdict.TheVariants.{Admitted}
 use Rattle.calculus.specs.Rules.{Gives, taut, ltl1, ltl2, ltl3, mp, nex, ind, DerivedGives, alw, ind1, som, chain}
 use Rattle.calculus.specs.Pages.{Given, Lawful, Page}
-use Rattle.calculus.specs.Published.{is_step, published}
+use Rattle.calculus.specs.Published.{published}
 use Rattle.calculus.specs.Derived.{derived}
 use Rattle.calculus.specs.Promises.{RulesKeepLaw}
 use Rattle.calculus.proofs.Laws as laws
-use Rattle.calculus.proofs.Exact.{is_step_true, admitted_if_true, published_exact, derived_both}
+use Rattle.calculus.proofs.Exact.{admitted_if_true, published_exact, derived_both}
 
 pub gives_lawful : {rule : ℕ} {X : Formula} {P Q : Option Formula} → Gives rule X P Q → (r : Run) → Given r P → Given r Q → Throughout r X
 gives_lawful (taut A t) r p q = laws.taut A t r
@@ -37,7 +37,5 @@ published_lawful rule X P Q e = gives_lawful ((published_exact rule X P Q).0 e).
 pub derived_lawful : (page : Page) → Lawful (derived page.verdict)
 derived_lawful page rule X P Q =
     derived_both page.verdict rule X P Q (λ v. v ≡ Admitted → (r : Run) → Given r P → Given r Q → Throughout r X)
-    (λ k A B C is g e r p q.
-    let (a, b, c) = is_step_true X P Q A B C (admitted_if_true (is_step X P Q A B C) e) in
-    subst (Throughout r) a (derived_gives_lawful g r (subst (Given r) (sym b) p) (subst (Given r) (sym c) q)))
+    (λ b gives e. derived_gives_lawful (gives (admitted_if_true b e)))
     (λ _. page.lawful rule X P Q)

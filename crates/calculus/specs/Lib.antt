@@ -1,6 +1,7 @@
 pub mod Tautology
 pub mod PrimeParts
 pub mod Rules
+pub mod Schemas
 pub mod Pages
 pub mod Published
 pub mod Derived

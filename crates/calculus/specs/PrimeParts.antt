@@ -1,5 +1,5 @@
 -- The prime parts of a formula, and its truth under all choices of truth for them.
-use Rattle.std.specs.Prelude.{◌≡◌, Bool, true, false, cond, ◌&&◌, ◌⊎◌, List, [], ◌∷◌, ◌++◌, is_some}
+use Rattle.std.specs.Prelude.{◌≡◌, Bool, true, false, ◌&&◌, if◌then◌else◌, ◌⊎◌, List, [], ◌∷◌, ◌++◌, is_some}
 use Rattle.logic.specs.Formula.{Formula, falsum, atom, implies, next, always}
 use Rattle.logic.specs.Same.{same}
 use Rattle.lists.specs.Adding.{place}
@@ -15,7 +15,7 @@ PrimePart (always A) P = always A ≡ P
 
 -- a list with one more formula at its end, unless it is there
 abbrev pub add : List Formula → Formula → List Formula
-add ps A = cond (is_some (place same ps A)) ps (ps ++ A ∷ [])
+add ps A = if is_some (place same ps A) then ps else ps ++ A ∷ []
 
 -- a list with the prime parts of a formula, from left to right
 abbrev pub gathered : List Formula → Formula → List Formula
@@ -31,7 +31,7 @@ prime_parts A = gathered [] A
 
 -- a choice of truth that is b for P, and else v
 abbrev pub put : Formula → Bool → (Formula → Bool) → Formula → Bool
-put P b v X = cond (same P X) b (v X)
+put P b v X = if same P X then b else v X
 
 -- a formula is true whatever the formulas of a list are, and others as v says
 abbrev pub every_way : List Formula → Formula → (Formula → Bool) → Bool

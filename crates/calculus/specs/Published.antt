@@ -1,49 +1,41 @@
 -- The published page: the axioms and rules 1 to 7, with tautologies of at most twelve prime parts.
-use Rattle.std.specs.Prelude.{ℕ, Bool, false, cond, ◌&&◌, length, Some, None, Option, ◌==◌, nat_le, is_none}
-use Rattle.logic.specs.Formula.{Formula, falsum, implies, next, always}
-use Rattle.logic.specs.Same.{left, right, same}
+use Rattle.std.specs.Prelude.{ℕ, ◌&&◌, List, [], ◌∷◌, length, Some, None, ◌==◌, nat_eq, nat_le, is_none, if◌then◌else◌}
+use Rattle.std.specs.Map.{lookup}
+use Rattle.logic.specs.Formula.{Formula, implies, next, always}
 use Rattle.calculus.specs.declared.verdict.Verdict.{Verdict}
-use Rattle.calculus.specs.declared.verdict.Verdict.TheVariants.{Admitted, NotAdmitted, BeyondLimit}
+use Rattle.calculus.specs.declared.verdict.Verdict.TheVariants.{NotAdmitted, BeyondLimit}
 use Rattle.calculus.specs.PrimeParts.{prime_parts, is_tautology}
 use Rattle.calculus.specs.Rules.{Ltl1, Ltl2, Ltl3}
+use Rattle.calculus.specs.Schemas.{RuleSchema, A, B, admitted_if, by_schema}
 use Rattle.calculus.specs.Pages.{Verdicts}
 
--- two premises, which may be missing, are the same
-abbrev pub same_premise : Option Formula → Option Formula → Bool
-same_premise None Q = is_none Q
-same_premise (Some A) None = false
-same_premise (Some A) (Some B) = same A B
+abbrev pub ltl1 : RuleSchema
+ltl1 = record { conclusion = Ltl1 A; first = None; second = None }
 
--- a premise, or false where it is missing
-abbrev pub premise_or_falsum : Option Formula → Formula
-premise_or_falsum None = falsum
-premise_or_falsum (Some A) = A
+abbrev pub ltl2 : RuleSchema
+ltl2 = record { conclusion = Ltl2 A B; first = None; second = None }
 
--- a conclusion and its premises are those that they are compared with
-abbrev pub is_step : Formula → Option Formula → Option Formula → Formula → Option Formula → Option Formula → Bool
-is_step X P Q A B C = same A X && (same_premise B P && same_premise C Q)
+abbrev pub ltl3 : RuleSchema
+ltl3 = record { conclusion = Ltl3 A; first = None; second = None }
 
--- they are an instance of a rule, 2 to 7: of the only one that their own parts allow
-abbrev pub instance_of : ℕ → Formula → Option Formula → Option Formula → Bool
-instance_of rule X P Q =
-    let is : Formula → Option Formula → Option Formula → Bool = is_step X P Q in
-    cond (rule == 2) (is (Ltl1 (left (left (left (left (left X)))))) None None)
-    (cond (rule == 3) (is (Ltl2 (left (left (left X))) (right (left (left X)))) None None)
-    (cond (rule == 4) (is (Ltl3 (left (left X))) None None)
-    (cond (rule == 5) (is X (Some (premise_or_falsum P)) (Some (implies (premise_or_falsum P) X)))
-    (cond (rule == 6) (is (next (left X)) (Some (left X)) None)
-    (cond (rule == 7) (is (implies (left X) (always (left (right X)))) (Some (implies (left X) (left (right X)))) (Some (implies (left X) (next (left X)))))
-    false)))))
+abbrev pub mp : RuleSchema
+mp = record { conclusion = B; first = Some A; second = Some (implies A B) }
 
-abbrev pub admitted_if : Bool → Verdict
-admitted_if b = cond b Admitted NotAdmitted
+abbrev pub nex : RuleSchema
+nex = record { conclusion = next A; first = Some A; second = None }
+
+abbrev pub ind : RuleSchema
+ind = record { conclusion = implies A (always B); first = Some (implies A B); second = Some (implies A (next A)) }
+
+-- the schemas of the rules with a number, all but tautologies, which have none
+abbrev pub published_schemas : List (ℕ × RuleSchema)
+published_schemas = (2, ltl1) ∷ (3, ltl2) ∷ (4, ltl3) ∷ (5, mp) ∷ (6, nex) ∷ (7, ind) ∷ []
 
 -- what the page says of a formula as a tautology
 abbrev pub taut_verdict : Formula → Verdict
-taut_verdict X = cond (nat_le (length (prime_parts X)) 12) (admitted_if (is_tautology X)) BeyondLimit
+taut_verdict X = if nat_le (length (prime_parts X)) 12 then admitted_if (is_tautology X) else BeyondLimit
 
 unfoldable pub published : Verdicts
 published rule X P Q =
-    cond (rule == 1)
-    (cond (is_none P && is_none Q) (taut_verdict X) NotAdmitted)
-    (admitted_if (instance_of rule X P Q))
+    if rule == 1 then (if is_none P && is_none Q then taut_verdict X else NotAdmitted)
+    else by_schema (lookup (nat_eq rule) published_schemas) NotAdmitted X P Q

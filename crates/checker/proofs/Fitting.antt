@@ -1,6 +1,6 @@
 -- The listing of every file fits the program's buffer.
-use Rattle.std.proofs.Common.{ℕ, ◌≤◌, leb, List, length, Ok, Err, Result, sym, subst, arith}
-use Rattle.std.proofs.lemmas.Bool.{cond_both, leb-true}
+use Rattle.std.proofs.Common.{ℕ, ◌≤◌, ltb, List, length, Ok, Err, Result, sym, subst, arith}
+use Rattle.std.proofs.lemmas.Bool.{cond_both, ltb-false}
 use Rattle.model.specs.Case.{Case}
 use Rattle.model.specs.History.{sealed_stage, after}
 use Rattle.model.specs.Limits.{Limits}
@@ -28,9 +28,8 @@ from_front_fits words bytes small (Err f) c within = omega arith
 checked_fits : (c : Case) (words bytes : List ℕ) → Fits64 (checked c words bytes).ending
 unfolding checked
 checked_fits c words bytes =
-    cond_both (leb (length bytes) 16384) _ (record { case = c; ending = Err TooLong; scratch = words }) (λ (x : Checked). Fits64 x.ending)
-    (λ small. from_front_fits words bytes (leb-true (length bytes) 16384 small) (front c bytes).answer (front c bytes).after (front_within c bytes))
-    (λ _. tt)
+    cond_both (ltb 16384 (length bytes)) (record { case = c; ending = Err TooLong; scratch = words }) _ (λ (x : Checked). Fits64 x.ending) (λ _. tt)
+    (λ small. from_front_fits words bytes (ltb-false 16384 (length bytes) small) (front c bytes).answer (front c bytes).after (front_within c bytes))
 
 pub listings_fit : ListingsFit 20480
 listings_fit h words bytes =

@@ -3,5 +3,5 @@ pub mod Listed
 pub mod Page
 pub mod Promised
 pub mod Fitting
-pub mod Into
+pub mod InBuffer
 pub mod Starting

@@ -1,6 +1,6 @@
 -- The case that is listed is that of the history that the file makes, which tells how the reading ended and what scratch words it left.
-use Rattle.std.proofs.Common.{◌≡◌, ℕ, ◌<◌, ◌≤◌, leb, List, length, replicate, Ok, Err, Result, sym, refl, ap, ◌∙◌, subst, arith}
-use Rattle.std.proofs.lemmas.Bool.{cond_both, leb-true, leb-false}
+use Rattle.std.proofs.Common.{◌≡◌, ℕ, ◌<◌, ◌≤◌, ltb, List, length, replicate, Ok, Err, Result, sym, refl, ap, ◌∙◌, subst, arith, ◌⊎◌, inl, inr}
+use Rattle.std.proofs.lemmas.Bool.{cond_both, ltb-true, ltb-false}
 use Rattle.model.specs.Case.{Case, empty}
 use Rattle.model.specs.History.{History, open_stage, sealed_stage, new, then_seal, after}
 use Rattle.model.proofs.Making.{made, one_made}
@@ -9,7 +9,7 @@ use Rattle.files.specs.Reading.{front, body}
 use Rattle.files.specs.FileReads.{FrontReads, BodyReads, FrontWithin}
 use Rattle.files.proofs.CallsMade.{front_makes_calls, body_makes_calls}
 use Rattle.files.proofs.FileReads.{front_exact, body_exact}
-use Rattle.files.proofs.LastRows.{body_leaves_last_rows}
+use Rattle.files.proofs.Scratch.{body_leaves_last_rows}
 use Rattle.files.proofs.Within.{front_within}
 use Rattle.listing.specs.Listing.{listing}
 use Rattle.listing.specs.declared.unread.Unread.{Unread}
@@ -19,7 +19,7 @@ use Rattle.checker.specs.FileHistory.{FrontMade, BodyMade, FileHistory, file_too
 use Rattle.checker.specs.Promises.{ListedAfterHistory, OneFileHistory, ListsHistory}
 
 module _ (h : History open_stage) (words bytes : List ℕ) where
-  -- what a file comes to is told by a history that it makes
+  -- what is checked of a file is told by a history that it makes
   abbrev Told : Checked → Type 0
   Told x = (later : History sealed_stage) × FileHistory h words bytes later x.ending x.scratch × (x.case ≡ after later)
 
@@ -39,7 +39,7 @@ module _ (h : History open_stage) (words bytes : List ℕ) where
   -- and so are the body's
   body_made : (g : History open_stage) (start : ℕ) → start ≤ length bytes
       → (k : History sealed_stage)
-      × BodyMade (then_seal g) start words bytes k (body program_page (after g) start words bytes).answer (body program_page (after g) start words bytes).scratch
+      × BodyMade (then_seal g) start words bytes k (body program_page (after g) start words bytes).answer (body program_page (after g) start words bytes).carried.scratch
       × ((body program_page (after g) start words bytes).after ≡ after k)
   body_made g start within =
       let (k, makes, same) = made sealed_stage (then_seal g) (body_makes_calls program_page (after g) start words bytes within) in (
@@ -75,9 +75,9 @@ module _ (h : History open_stage) (words bytes : List ℕ) where
 pub listed_after_history : ListedAfterHistory
 unfolding checked
 listed_after_history h words bytes =
-    cond_both (leb (length bytes) 16384) _ (record { case = after h; ending = Err TooLong; scratch = words }) (Told h words bytes)
-    (λ short. read_told h words bytes (leb-true (length bytes) 16384 short))
-    (λ long. (then_seal h, file_too_long (leb-false (length bytes) 16384 long), refl))
+    cond_both (ltb 16384 (length bytes)) (record { case = after h; ending = Err TooLong; scratch = words }) _ (Told h words bytes)
+    (λ long. (then_seal h, file_too_long (ltb-true 16384 (length bytes) long), refl))
+    (λ short. read_told h words bytes (ltb-false 16384 (length bytes) short))
 
 -- ---- one history alone
 
@@ -89,55 +89,50 @@ module _ (h : History open_stage) (words bytes : List ℕ) where
       → BodyMade g start words bytes k r left → BodyMade g start words bytes l q rest → (k ≡ l) × (r ≡ q) × (left ≡ rest)
   one_body {g} {start} {k} {l} one other = (one_made sealed_stage g _ k l one.makes other.makes, sym one.answered ∙ other.answered, sym one.leaves ∙ other.leaves)
 
-  -- of a front that was read, and of the body behind it
-  one_behind : {g k : History open_stage} {start from : ℕ} {l m : History sealed_stage} {r q : Result (Unit {0}) Fault} {left rest : List ℕ}
-      → FrontMade h bytes g (Ok start) → FrontMade h bytes k (Ok from) → BodyMade (then_seal g) start words bytes l r left → BodyMade (then_seal k) from words bytes m q rest
-      → (l ≡ m) × (r ≡ q) × (left ≡ rest)
-  one_behind {g} {k} {start} {from} {l} {m} {r} {q} {left} {rest} front other one another =
-      let (same, ok) = one_front front other in
-      let place : from ≡ start = cc in
-      one_body one (subst (λ (n : ℕ). BodyMade (then_seal g) n words bytes m q rest) place (subst (λ (x : History open_stage). BodyMade (then_seal x) from words bytes m q rest) (sym same) another))
+  -- what a file's records make after a front that was answered so
+  abbrev Behind : History open_stage → Result ℕ Fault → History sealed_stage → Result ℕ Unread → List ℕ → Type 0
+  Behind g (Ok start) k e left = (r : Result (Unit {0}) Fault) × BodyMade (then_seal g) start words bytes k r left × (e ≡ ended (length bytes) r)
+  Behind g (Err f) k e left = (k ≡ then_seal g) × (e ≡ Err (Refused f)) × (left ≡ words)
 
-  -- a front is not read and refused
-  one_answer : {g k : History open_stage} {start : ℕ} {e : Fault} {A : Type 0} → FrontMade h bytes g (Ok start) → FrontMade h bytes k (Err e) → A
-  one_answer {start = start} {e = e} read refused = let wrong : ◌≡◌ {A = Result ℕ Fault} (Ok start) (Err e) = sym read.answered ∙ refused.answered in cc
+  -- a history of a file that is too long, and of one that is read
+  abbrev Unmade : History sealed_stage → Result ℕ Unread → List ℕ → Type 0
+  Unmade k e left = (16384 < length bytes) × (k ≡ then_seal h) × (e ≡ Err TooLong) × (left ≡ words)
 
-  -- nor is a file too long and short enough
-  one_length : {A : Type 0} → 16384 < length bytes → length bytes ≤ 16384 → A
-  one_length long short = absurd (omega (arith, long, short))
+  abbrev Made : History sealed_stage → Result ℕ Unread → List ℕ → Type 0
+  Made k e left = (length bytes ≤ 16384) × (g : History open_stage) × (r : Result ℕ Fault) × FrontMade h bytes g r × Behind g r k e left
 
-  same_history : {k l : History sealed_stage} {e f : Result ℕ Unread} {left other : List ℕ} → FileHistory h words bytes k e left → FileHistory h words bytes l f other → (k ≡ l) × (e ≡ f) × (left ≡ other)
-  same_history (file_too_long long) (file_too_long again) = (refl, refl, refl)
-  same_history (file_too_long long) (front_refused short k d other) = one_length long short
-  same_history (file_too_long long) (body_refused short k from other m d rest made) = one_length long short
-  same_history (file_too_long long) (read_whole short k from other m rest made) = one_length long short
-  same_history (front_refused short g e front) (file_too_long long) = one_length long short
-  same_history (front_refused short g e front) (front_refused again k d other) =
-      let (same, answer) = one_front front other in
-      let fault : e ≡ d = cc in
-      (ap then_seal same, ap (λ x. Err (Refused x)) fault, refl)
-  same_history (front_refused short g e front) (body_refused again k from other m d rest made) = one_answer other front
-  same_history (front_refused short g e front) (read_whole again k from other m rest made) = one_answer other front
-  same_history (body_refused short g start front l e left one) (file_too_long long) = one_length long short
-  same_history (body_refused short g start front l e left one) (front_refused again k d other) = one_answer front other
-  same_history (body_refused short g start front l e left one) (body_refused again k from other m d rest made) =
-      let (same, answer, words_same) = one_behind front other one made in
-      let fault : e ≡ d = cc in
-      (same, ap (λ x. Err (Refused x)) fault, words_same)
-  same_history (body_refused short g start front l e left one) (read_whole again k from other m rest made) =
-      let (same, answer, words_same) = one_behind front other one made in cc
-  same_history (read_whole short g start front l left one) (file_too_long long) = one_length long short
-  same_history (read_whole short g start front l left one) (front_refused again k d other) = one_answer front other
-  same_history (read_whole short g start front l left one) (body_refused again k from other m d rest made) =
-      let (same, answer, words_same) = one_behind front other one made in cc
-  same_history (read_whole short g start front l left one) (read_whole again k from other m rest made) =
-      let (same, answer, words_same) = one_behind front other one made in
-      (same, refl, words_same)
+  by_front : {k : History sealed_stage} {e : Result ℕ Unread} {left : List ℕ} → FileHistory h words bytes k e left → Unmade k e left ⊎ Made k e left
+  by_front (file_too_long long) = inl (long, refl, refl, refl)
+  by_front (front_refused short g e front) = inr (short, g, Err e, front, (refl, refl, refl))
+  by_front (body_refused short g start front k e left made) = inr (short, g, Ok start, front, (Err e, made, refl))
+  by_front (read_whole short g start front k left made) = inr (short, g, Ok start, front, (Ok tt, made, refl))
+
+  one_behind : (g : History open_stage) (r : Result ℕ Fault) {k l : History sealed_stage} {e f : Result ℕ Unread} {left rest : List ℕ}
+      → Behind g r k e left → Behind g r l f rest → (k ≡ l) × (e ≡ f) × (left ≡ rest)
+  one_behind g (Ok start) (r, made, is) (q, again, same) =
+      let (history, answer, scratch) = one_body made again in
+      (history, is ∙ ap (ended (length bytes)) answer ∙ sym same, scratch)
+  one_behind g (Err d) (history, is, scratch) (again, same, other) = (history ∙ sym again, is ∙ sym same, scratch ∙ sym other)
+
+  same_history : {k l : History sealed_stage} {e f : Result ℕ Unread} {left rest : List ℕ} → FileHistory h words bytes k e left → FileHistory h words bytes l f rest → (k ≡ l) × (e ≡ f) × (left ≡ rest)
+  same_history {l = l} {f = f} {rest = rest} one other = elim (by_front one) [
+    | inl (long, history, is, scratch) ↦ elim (by_front other) [
+      | inl (again, before, same, left) ↦ (history ∙ sym before, is ∙ sym same, scratch ∙ sym left)
+      | inr (short, g, r, front, behind) ↦ absurd (omega (arith, long, short))
+    ]
+    | inr (short, g, r, front, behind) ↦ elim (by_front other) [
+      | inl (long, before, same, left) ↦ absurd (omega (arith, long, short))
+      | inr (again, i, q, front_again, behind_again) ↦
+          let (history, answer) = one_front front front_again in
+          one_behind g r behind
+          (subst (λ (a : Result ℕ Fault). Behind g a l f rest) (sym answer) (subst (λ (x : History open_stage). Behind x q l f rest) (sym history) behind_again))
+    ]
+  ]
 
 pub one_file_history : OneFileHistory
 one_file_history h words bytes k l e f left other one another = same_history h words bytes one another
 
--- a listing is that of the history that the file makes behind a new case
+-- a listing is that of the history that the file makes after a new case
 pub lists_history : (n : ℕ) (bytes text : List ℕ) → text ≡ file_listing empty (replicate n 0) bytes → ListsHistory n bytes text
 lists_history n bytes text is =
     let (later, makes, same) = listed_after_history new (replicate n 0) bytes in

@@ -7,15 +7,15 @@ use Rattle.calculus.specs.declared.verdict.Verdict.TheVariants.{Admitted, Beyond
 use Rattle.calculus.specs.PrimeParts.{prime_parts}
 use Rattle.calculus.specs.Rules.{Gives, DerivedGives}
 use Rattle.calculus.specs.Published.{published}
-use Rattle.calculus.proofs.Exact.{published_exact, published_limit, derived_exact, derived_numbers}
+use Rattle.calculus.proofs.Exact.{published_exact, published_numbers, published_limit, derived_exact, derived_numbers}
 use Rattle.model.specs.declared.line.Line.{Line}
 use Rattle.model.specs.Case.{Case}
 use Rattle.model.specs.Lines.{assumption_verdict, line_verdict}
 use Rattle.model.specs.Outcomes.{Stated}
 use Rattle.model.specs.Promises.{as_assumption, by_its_rule}
 use Rattle.model.proofs.AssumptionLines.{assumption_admitted}
-use Rattle.model.proofs.LineChanges.{line_allowed}
-use Rattle.model.proofs.LineExactly.{rule_number, page_verdict, assumption_line_admitted, stated_held, allowed_stated}
+use Rattle.model.proofs.LineGoes.{line_allowed}
+use Rattle.model.proofs.LineExactly.{page_verdict, assumption_line_admitted, stated_held, allowed_stated}
 use Rattle.checker.specs.Promises.{PagePublishes, PageExact, PageLimit, ProgramGives, by_calculus, by_derived_rule, ProgramLineExactly}
 use Rattle.checker.specs.Checked.{program_page}
 
@@ -45,7 +45,7 @@ module _ (rule : ℕ) (X : Formula) (P Q : Option Formula) where
       let exact = ((derived_exact published rule X P Q).0 low high).0 in (
         λ is. inr (exact.0 is),
         λ g. elim g [
-          | inl basic ↦ absurd (let n = rule_number basic.0 in omega (arith, n.0, n.1))
+          | inl basic ↦ absurd (let n = published_numbers basic.0 in omega (arith, n.0, n.1))
           | inr derives ↦ exact.1 derives
         ],
       )
@@ -105,7 +105,7 @@ module _ (c : Case) (l : Line) where
   given_admitted : ProgramGives c l → line_verdict c program_page l ≡ Admitted
   given_admitted (by_calculus (as_assumption s a)) = assumption_line_admitted c program_page l a
   given_admitted (by_calculus (by_its_rule s gives few)) =
-      let number = rule_number gives in
+      let number = published_numbers gives in
       page_verdict c program_page l s (λ zero. omega (arith, number.0)) ∙ (page_exact l.rule s.formula s.first s.second).1 (inl (gives, few))
   given_admitted (by_derived_rule s derives) =
       let number = derived_numbers derives in

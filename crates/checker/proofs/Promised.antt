@@ -4,10 +4,9 @@ use Rattle.model.proofs.Making.{one_made}
 use Rattle.model.proofs.Promises as cases
 use Rattle.files.proofs.CallsMade.{front_makes_calls, body_makes_calls, front_makes_history, body_makes_history}
 use Rattle.files.proofs.FileReads.{front_exact, body_exact, body_past_end}
-use Rattle.files.proofs.LastRows.{body_leaves_last_rows}
 use Rattle.records.proofs.Asking.{records_ask}
 use Rattle.records.proofs.ReadBack.{records_read_back}
-use Rattle.files.proofs.Scratch.{body_keeps_scratch_length}
+use Rattle.files.proofs.Scratch.{body_keeps_scratch_length, body_leaves_last_rows}
 use Rattle.files.proofs.Within.{offsets_within}
 use Rattle.checker.specs.Promises.{FilePromises, AllPromises}
 use Rattle.checker.proofs.Fitting.{listings_fit}

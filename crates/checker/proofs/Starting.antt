@@ -1,4 +1,4 @@
--- So many bytes as a file may have, and one more, tell what is listed of an input.
+-- As many bytes as a file may have, and one more, tell what is listed of an input.
 use Rattle.std.proofs.Common.{length, take, ap, sym, ◌∙◌, inl, inr, arith}
 use Rattle.std.proofs.lemmas.Bool.{cases_lt}
 use Rattle.std.proofs.lemmas.List.{length-take, take_all}

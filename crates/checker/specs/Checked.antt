@@ -1,10 +1,10 @@
--- What a file comes to: the case that its records make, how its reading ended, and the scratch words afterwards.
-use Rattle.std.specs.Prelude.{ℕ, cond, List, length, Ok, Err, Result, nat_le}
+-- What reading a file gives: the case that its records make, how its reading ended, and the scratch words afterwards.
+use Rattle.std.specs.Prelude.{ℕ, List, length, Ok, Err, Result, if◌then◌else◌, nat_lt}
 use Rattle.calculus.specs.Pages.{Page}
 use Rattle.model.specs.StandardPages.{published_page, derived_page}
 use Rattle.model.specs.Case.{Case}
 use Rattle.records.specs.declared.fault.Fault.{Fault}
-use Rattle.files.specs.Reading.{BodyReading, front, body}
+use Rattle.files.specs.Reading.{Reading, Carried, front, body}
 use Rattle.listing.specs.declared.unread.Unread.{Unread}
 use Rattle.listing.specs.declared.unread.Unread.TheVariants.{TooLong, Refused}
 use Rattle.listing.specs.Listing.{listing}
@@ -24,19 +24,18 @@ abbrev pub ended : ℕ → Result (Unit {0}) Fault → Result ℕ Unread
 ended n (Ok done) = Ok n
 ended n (Err e) = Err (Refused e)
 
--- what the front answered, and the case then: the body is read only behind a front that was read
+-- what the front answered, and the case then: the body is read only after a front that was read
 abbrev pub from_front : List ℕ → List ℕ → Result ℕ Fault → Case → Checked
 from_front words bytes (Ok behind) c =
-    let read : BodyReading = body program_page c behind words bytes in
-    record { case = read.after; ending = ended (length bytes) read.answer; scratch = read.scratch }
+    let read : Reading Carried (Unit {0}) = body program_page c behind words bytes in
+    record { case = read.after; ending = ended (length bytes) read.answer; scratch = read.carried.scratch }
 from_front words bytes (Err e) c = record { case = c; ending = Err (Refused e); scratch = words }
 
--- a file has at most 16,384 bytes, and of a longer input nothing is read
+-- of an input longer than 16,384 bytes, which no file is, nothing is read
 unfoldable pub checked : Case → List ℕ → List ℕ → Checked
 checked c words bytes =
-    cond (nat_le (length bytes) 16384)
-    (from_front words bytes (front c bytes).answer (front c bytes).after)
-    (record { case = c; ending = Err TooLong; scratch = words })
+    if nat_lt 16384 (length bytes) then record { case = c; ending = Err TooLong; scratch = words }
+    else from_front words bytes (front c bytes).answer (front c bytes).after
 
 -- the listing of a file
 abbrev pub file_listing : Case → List ℕ → List ℕ → List ℕ

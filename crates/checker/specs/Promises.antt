@@ -62,7 +62,7 @@ abbrev pub OneFileHistory : Type 0
 OneFileHistory = (h : History open_stage) (words bytes : List ℕ) (k l : History sealed_stage) (e f : Result ℕ Unread) (left other : List ℕ)
     → FileHistory h words bytes k e left → FileHistory h words bytes l f other → (k ≡ l) × (e ≡ f) × (left ≡ other)
 
--- a text is the listing of the case after the history that a file makes behind a new case, where there are n scratch words, and of how the reading ended
+-- a text is the listing of the case after the history that a file makes after a new case, where there are n scratch words, and of how the reading ended
 abbrev pub ListsHistory : ℕ → List ℕ → List ℕ → Type 0
 ListsHistory n bytes text =
     (later : History sealed_stage)
@@ -70,11 +70,11 @@ ListsHistory n bytes text =
     × (left : List ℕ)
     × FileHistory new (replicate n 0) bytes later ending left × (text ≡ listing (after later) ending)
 
--- the listing of every file, on a case after any history and with any scratch, fits so many bytes
+-- the listing of every file, on a case after any history and with any scratch, fits this number of bytes
 abbrev pub ListingsFit : ℕ → Type 0
 ListingsFit most = (h : History open_stage) (words bytes : List ℕ) → length (file_listing (after h) words bytes) ≤ most
 
--- of an input, its first so many bytes are listed as the whole is
+-- of an input, this number of its first bytes is listed as the whole is
 abbrev pub StartSuffices : ℕ → Type 0
 StartSuffices most = (c : Case) (words bytes : List ℕ) → file_listing c words (take most bytes) ≡ file_listing c words bytes
 

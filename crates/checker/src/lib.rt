@@ -18,13 +18,13 @@ pub use unwritten::Unwritten;
 
 mod unwritten;
 
-// The most bytes that a file has.
+/// The most bytes that a file has.
 pub const FILE_MOST: usize = 16_384;
 
-// Of an input, so many bytes are enough: with one byte more than a file may have it is known to be too long.
+/// The most bytes of an input that are worth reading: with one byte more than a file may have it is known to be too long.
 pub const INPUT_MOST: usize = FILE_MOST + 1;
 
-// With so many scratch words no refutation is refused for want of them: four for each of 1,024 formulas.
+/// The scratch words with which no refutation is refused for having too few: four for each of 1,024 formulas.
 pub const SCRATCH_MOST: usize = 4096;
 
 // The page that lines are entered under: the derived rules over the published page.
@@ -32,8 +32,10 @@ const PAGE: DerivedPage<PublishedPage> = DerivedPage {
     below: PublishedPage,
 };
 
-// Reads a file into an open case, with scratch words for its refutations, and writes the listing into a caller's buffer,
-// since nothing is allocated after a case is made: its length is answered.
+/// Reads a file into an open case, with scratch words for its refutations, and writes the listing into a caller's buffer,
+/// since nothing is allocated after a case is made: its length in bytes is answered.
+///
+/// A buffer that is shorter than the listing is refused by 27, and stays as it is; 20,480 bytes are always enough.
 #[tactic(auto, using(crate::proofs::Promised::all_promises))]
 pub fn list_file(
     case: OpenCase,
@@ -41,8 +43,10 @@ pub fn list_file(
     scratch: &mut [u64],
     buffer: &mut [u8],
 ) -> Result<usize, ListingRefusal>
-    ensures answer { result ≡ written_answer (file_listing (opened case) scratch.old file.now) buffer.old }
-    ensures after { buffer.new ≡ written_after (file_listing (opened case) scratch.old file.now) buffer.old }
+    ensures answer { result
+        ≡ written_answer (file_listing (opened case) scratch.old file.now) buffer.old }
+    ensures after { buffer.new
+        ≡ written_after (file_listing (opened case) scratch.old file.now) buffer.old }
     ensures words { scratch.new ≡ (checked (opened case) scratch.old file.now).scratch }
     ensures promised { AllPromises }
 {
@@ -50,8 +54,11 @@ pub fn list_file(
     write_listing(&case, ending, buffer)
 }
 
-// Writes the listing of a file that is read into a new case, with scratch words of its own, into a caller's buffer. It is
-// that of the history that the file makes: its front's calls, the seal, its body's calls.
+/// Writes the listing of a file that is read into a new case, with scratch words of its own, into a caller's buffer, and
+/// answers its length in bytes. It is that of the history that the file makes: its front's calls, the seal, its body's calls.
+///
+/// A buffer that is shorter than the listing is refused by 27; 28 is answered where memory is lacking. The buffer then stays
+/// as it is.
 #[tactic(auto, using(crate::proofs::Promised::all_promises))]
 pub fn list_into(heap: Global, file: &[u8], buffer: &mut [u8]) -> Result<usize, Unwritten>
     ensures text { ListsInto SCRATCH_MOST file.now buffer.old result buffer.new }
@@ -63,10 +70,11 @@ pub fn list_into(heap: Global, file: &[u8], buffer: &mut [u8]) -> Result<usize, 
     Ok(list_file(case, file, &mut scratch, buffer)?)
 }
 
-// The listing of a file that is read into a new case, in memory of its own.
+/// The listing of a file that is read into a new case, in memory of its own. Only where memory is lacking there is none.
 #[tactic(auto, using(crate::proofs::Promised::all_promises))]
 pub fn listing_of(heap: Global, file: &[u8]) -> Result<Vec<u8>, AllocError>
-    ensures text { IfOk result (λ text. text.items ≡ file_listing empty (replicate SCRATCH_MOST 0) file.now) }
+    ensures text { IfOk result (λ text.
+        text.items ≡ file_listing empty (replicate SCRATCH_MOST 0) file.now) }
     ensures history { IfOk result (λ text. ListsHistory SCRATCH_MOST file.now text.items) }
     ensures promised { AllPromises }
 {
@@ -101,7 +109,7 @@ fn read_file(
     (sealed, ending)
 }
 
-// Reads the body behind a front. A refused front has none.
+// Reads the body after a front. A refused front has none.
 fn read_behind(
     front: Result<usize, Fault>,
     case: &mut SealedCase,
@@ -109,8 +117,10 @@ fn read_behind(
     scratch: &mut [u64],
 ) -> Result<usize, Unread>
     ensures ending { result ≡ (from_front scratch.old file.now front (sealed case.old)).ending }
-    ensures after { sealed case.new ≡ (from_front scratch.old file.now front (sealed case.old)).case }
-    ensures words { scratch.new ≡ (from_front scratch.old file.now front (sealed case.old)).scratch }
+    ensures after { sealed case.new
+        ≡ (from_front scratch.old file.now front (sealed case.old)).case }
+    ensures words { scratch.new
+        ≡ (from_front scratch.old file.now front (sealed case.old)).scratch }
 {
     let start = front?;
     read_body(case, &PAGE, file, start, scratch)?;

@@ -5,17 +5,21 @@ ghost use Rattle.checker.specs.declared.unwritten.Unwritten.TheVariants.{BufferT
 
 use listing::ListingRefusal;
 use std::alloc::AllocError;
+use thiserror::Error;
 
-#[derive(Clone, Copy, PartialEq, Eq, Debug)]
+/// Why a caller's buffer has no listing.
+#[derive(Clone, Copy, PartialEq, Eq, Debug, Error)]
 pub enum Unwritten {
-    // the buffer is shorter than the listing
+    /// 27: the buffer is shorter than the listing.
+    #[error("the buffer is shorter than the listing")]
     BufferTooShort = 27,
-    // memory for a case is lacking
+    /// 28: memory for a case is lacking.
+    #[error("there is not enough memory for a case")]
     NoMemory = 28,
 }
 
 impl Unwritten {
-    // The number that a caller is told. By a name, and no `From` or trait, so that a call says which number it is.
+    /// The number that a caller is told: 27 or 28.
     pub fn number(self) -> u8
         ensures { result ≡ unwritten_number self }
     {

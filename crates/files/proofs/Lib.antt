@@ -1,7 +1,6 @@
-pub mod Called
-pub mod Left
-pub mod Scratch
+pub mod Start
+pub mod Reading
 pub mod CallsMade
-pub mod LastRows
+pub mod Scratch
 pub mod Within
 pub mod FileReads

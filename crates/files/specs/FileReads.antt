@@ -3,7 +3,7 @@ use Rattle.std.specs.Prelude.{◌≡◌, ℕ, ◌+◌, ◌<◌, ◌≤◌, List,
 use Rattle.refusals.specs.declared.Refusal.{Refusal}
 use Rattle.calculus.specs.Pages.{Page}
 use Rattle.model.specs.Case as cases
-use Rattle.model.specs.History.{open_stage, sealed_stage, Call, after_call, Refused}
+use Rattle.model.specs.History.{Stage, open_stage, sealed_stage, Call, after_call, Refused}
 use Rattle.runs.specs.Bytes.{Bytes}
 use Rattle.records.specs.declared.fault.Cause.{Cause}
 use Rattle.records.specs.declared.fault.Cause.TheVariants.{Record, Payload, Case}
@@ -13,10 +13,10 @@ use Rattle.records.specs.declared.fault.RecordFault.{RecordFault}
 use Rattle.records.specs.declared.fault.RecordFault.TheVariants.{ShortHead, NoSeal}
 use Rattle.records.specs.Records.{Content}
 use Rattle.records.specs.WrittenRecords.{written, Writable, NoRecord}
-use Rattle.records.specs.Asking.{FrontAsks, BodyAsks}
+use Rattle.records.specs.Asking.{Asked, FrontAsks, BodyAsks}
 use Rattle.files.specs.Reading.{front, body}
 
--- where the next record is due behind one whose head stands at an offset
+-- where the next record is due after one whose head stands at an offset
 abbrev pub due_behind : ℕ → Content → ℕ
 due_behind at r = at + 4 + length r.payload
 
@@ -24,41 +24,33 @@ due_behind at r = at + 4 + length r.payload
 abbrev pub fault_at : {A : Type 0} → Cause → ℕ → Result A Fault
 fault_at e at = Err (record { cause = e; offset = at })
 
--- what reading a front answers from an offset on, by the bytes that stand there and on a case, and the case afterwards
-pub data FrontReads : ℕ → List ℕ → cases.Case → Result ℕ Fault → cases.Case → Type 0 where
-  -- no bytes are left, and no seal record has come
-  no_seal : {at : ℕ} {c : cases.Case} → FrontReads at [] c (fault_at (Record NoSeal) at) c
-  -- the bytes are too few for a record
-  front_no_record : {at : ℕ} {bytes : List ℕ} {c : cases.Case} {e : RecordFault} → NoRecord bytes e → FrontReads at bytes c (fault_at (Record e) at) c
-  -- a record asks for nothing that a front takes
-  front_payload_wrong : {at : ℕ} {c : cases.Case} (r : Content) (rest : List ℕ) {e : PayloadFault} → Writable r → FrontAsks r.kind r.payload (Err e)
-      → FrontReads at (written r ++ rest) c (fault_at (Payload e) at) c
-  -- the case refuses the call of a record, and stays as it is
-  front_call_refused : {at : ℕ} {c : cases.Case} (r : Content) (rest : List ℕ) {x : Call open_stage} {e : Refusal} → Writable r → FrontAsks r.kind r.payload (Ok (Some x)) → Refused c x e
-      → FrontReads at (written r ++ rest) c (fault_at (Case e) at) c
-  -- it answers the call, and what stands behind the record is read on the case after the call
-  front_call_answered : {at : ℕ} {c d : cases.Case} (r : Content) (rest : List ℕ) {x : Call open_stage} {answer : Result ℕ Fault}
-      → Writable r → FrontAsks r.kind r.payload (Ok (Some x)) → ((e : Refusal) → Refused c x e → ⊥)
-      → FrontReads (due_behind at r) rest (after_call c x) answer d → FrontReads at (written r ++ rest) c answer d
-  -- the seal record ends the front: the answer is the offset behind it
-  front_sealed : {at : ℕ} {c : cases.Case} (r : Content) (rest : List ℕ) → Writable r → FrontAsks r.kind r.payload (Ok None) → FrontReads at (written r ++ rest) c (Ok (due_behind at r)) c
-
--- the same of a body, by the page of rules and the number of scratch words
-pub data BodyReads (page : Page) (n : ℕ) : ℕ → List ℕ → cases.Case → Result (Unit {0}) Fault → cases.Case → Type 0 where
+-- what reading a part of a file answers from an offset on, by the bytes that stand there and on a case, and the case afterwards: by what a record asks for, and by the answers at a seal, whose offset after it is given, and where no bytes are left, at an offset
+pub data Reads (s : Stage) (A : Type 0) (Asks : ℕ → List ℕ → Asked s → Type 0) (at_seal at_end : ℕ → Result A Fault) : ℕ → List ℕ → cases.Case → Result A Fault → cases.Case → Type 0 where
   -- no bytes are left
-  body_ended : {at : ℕ} {c : cases.Case} → BodyReads page n at [] c (Ok tt) c
+  no_bytes : {at : ℕ} {c : cases.Case} → Reads s A Asks at_seal at_end at [] c (at_end at) c
   -- the bytes are too few for a record
-  body_no_record : {at : ℕ} {bytes : List ℕ} {c : cases.Case} {e : RecordFault} → NoRecord bytes e → BodyReads page n at bytes c (fault_at (Record e) at) c
-  -- a record asks for nothing that a body takes
-  body_payload_wrong : {at : ℕ} {c : cases.Case} (r : Content) (rest : List ℕ) {e : PayloadFault} → Writable r → BodyAsks page n r.kind r.payload (Err e)
-      → BodyReads page n at (written r ++ rest) c (fault_at (Payload e) at) c
+  no_record : {at : ℕ} {bytes : List ℕ} {c : cases.Case} {e : RecordFault} → NoRecord bytes e → Reads s A Asks at_seal at_end at bytes c (fault_at (Record e) at) c
+  -- a record asks for nothing that this part takes
+  payload_wrong : {at : ℕ} {c : cases.Case} (r : Content) (rest : List ℕ) {e : PayloadFault} → Writable r → Asks r.kind r.payload (Err e)
+      → Reads s A Asks at_seal at_end at (written r ++ rest) c (fault_at (Payload e) at) c
   -- the case refuses the call of a record, and stays as it is
-  body_call_refused : {at : ℕ} {c : cases.Case} (r : Content) (rest : List ℕ) {x : Call sealed_stage} {e : Refusal} → Writable r → BodyAsks page n r.kind r.payload (Ok x) → Refused c x e
-      → BodyReads page n at (written r ++ rest) c (fault_at (Case e) at) c
-  -- it answers the call, and what stands behind the record is read on the case after the call
-  body_call_answered : {at : ℕ} {c d : cases.Case} (r : Content) (rest : List ℕ) {x : Call sealed_stage} {answer : Result (Unit {0}) Fault}
-      → Writable r → BodyAsks page n r.kind r.payload (Ok x) → ((e : Refusal) → Refused c x e → ⊥)
-      → BodyReads page n (due_behind at r) rest (after_call c x) answer d → BodyReads page n at (written r ++ rest) c answer d
+  call_refused : {at : ℕ} {c : cases.Case} (r : Content) (rest : List ℕ) {x : Call s} {e : Refusal} → Writable r → Asks r.kind r.payload (Ok (Some x)) → Refused c x e
+      → Reads s A Asks at_seal at_end at (written r ++ rest) c (fault_at (Case e) at) c
+  -- it answers the call, and what stands after the record is read on the case after the call
+  call_answered : {at : ℕ} {c d : cases.Case} (r : Content) (rest : List ℕ) {x : Call s} {answer : Result A Fault}
+      → Writable r → Asks r.kind r.payload (Ok (Some x)) → ((e : Refusal) → Refused c x e → ⊥)
+      → Reads s A Asks at_seal at_end (due_behind at r) rest (after_call c x) answer d → Reads s A Asks at_seal at_end at (written r ++ rest) c answer d
+  -- a seal record ends the part
+  sealed : {at : ℕ} {c : cases.Case} (r : Content) (rest : List ℕ) → Writable r → Asks r.kind r.payload (Ok None)
+      → Reads s A Asks at_seal at_end at (written r ++ rest) c (at_seal (due_behind at r)) c
+
+-- a front answers the offset after its seal record, and without one a fault at the end
+abbrev pub FrontReads : ℕ → List ℕ → cases.Case → Result ℕ Fault → cases.Case → Type 0
+FrontReads = Reads open_stage ℕ FrontAsks (λ behind. Ok behind) (λ at. fault_at (Record NoSeal) at)
+
+-- a body, by the page of rules and the number of scratch words, ends with the file: none of its records is a seal
+abbrev pub BodyReads : Page → ℕ → ℕ → List ℕ → cases.Case → Result (Unit {0}) Fault → cases.Case → Type 0
+BodyReads page n = Reads sealed_stage (Unit {0}) (BodyAsks page n) (λ behind. Ok tt) (λ at. Ok tt)
 
 -- the front of a file is read so from its first byte on
 abbrev pub FrontExact : Type 0
@@ -74,7 +66,7 @@ abbrev pub BodyPastEnd : Type 0
 BodyPastEnd = (page : Page) (c : cases.Case) (start : ℕ) (words bytes : List ℕ) → length bytes < start
     → ((body page c start words bytes).answer ≡ fault_at (Record ShortHead) start)
     × ((body page c start words bytes).after ≡ c)
-    × ((body page c start words bytes).scratch ≡ words)
+    × ((body page c start words bytes).carried.scratch ≡ words)
 
 -- an answer tells no offset past n
 abbrev pub FrontWithin : ℕ → Result ℕ Fault → Type 0

@@ -1,103 +1,108 @@
--- What reading a file's front or body answers, and the case and the scratch words afterwards.
-use Rattle.std.specs.Prelude.{ℕ, ◌+◌, cond, List, length, drop, Ok, Err, Result, nat_lt}
+-- What reading a file's front or body answers, and the case and what is carried beside it afterwards.
+use Rattle.std.specs.Prelude.{ℕ, ◌+◌, List, length, Some, None, Ok, Err, Option, Result}
+use Rattle.std.specs.Result.{result_err}
 use Rattle.refusals.specs.declared.Refusal.{Refusal}
 use Rattle.calculus.specs.Pages.{Page}
 use Rattle.model.specs.Case as cases
-use Rattle.model.specs.Calls.{Outcome, form, assume}
-use Rattle.model.specs.Lines.{line}
-use Rattle.model.specs.Judging.{refute, refute_scratch}
-use Rattle.records.specs.declared.fault.RecordFault.TheVariants.{ShortHead, NoSeal}
-use Rattle.records.specs.declared.fault.PayloadFault.{PayloadFault}
+use Rattle.model.specs.Calls as calls
+use Rattle.model.specs.Lines as lines
+use Rattle.model.specs.Judging as judging
+use Rattle.model.specs.History.{Stage, open_stage, sealed_stage, Call, form, assume, truth, line, refute, after_call}
+use Rattle.records.specs.declared.fault.RecordFault.TheVariants.{NoSeal}
 use Rattle.records.specs.declared.fault.Cause.{Cause}
 use Rattle.records.specs.declared.fault.Cause.TheVariants.{Record, Payload, Case}
 use Rattle.records.specs.declared.fault.Fault.{Fault}
-use Rattle.records.specs.declared.front_record.FrontRecord.{FrontRecord}
-use Rattle.records.specs.declared.front_record.FrontRecord.TheVariants.{FormRecord, AssumeRecord, SealRecord}
-use Rattle.records.specs.Records.{Records, none, bad, more, records}
-use Rattle.records.specs.Payloads.{record_of_front, Request, form_request, line_request, refute_request, record_of_body}
+use Rattle.records.specs.Contents.{records_from}
+use Rattle.records.specs.Records.{Records, none, bad, more}
+use Rattle.records.specs.declared.body_record.BodyRecord.{BodyRecord}
+use Rattle.records.specs.Requests.{request_of}
+use Rattle.records.specs.Asking.{Asked, body_call, front_asked, body_asked}
 
--- what a record's call answered: a refusal ends the reading with a cause at the record's offset, else it goes on
-abbrev pub called : {R : Type 0} → ℕ → Result ℕ Refusal → (Cause → ℕ → R) → R → R
-called at (Ok n) stop go = go
-called at (Err e) stop go = stop (Case e) at
+-- the refusal of a call on a case, if it is refused
+abbrev pub refusal_of : {s : Stage} → cases.Case → Call s → Option Refusal
+refusal_of c (form kind left right) = result_err (calls.form c kind left right).answer
+refusal_of c (assume f) = result_err (calls.assume c f).answer
+refusal_of c (truth r f i n) = result_err (judging.truth c r f i n).answer
+refusal_of c (line page l) = result_err (lines.line c page l).answer
+refusal_of c (refute r f i n) = result_err (judging.refute c r f i n).answer
 
--- of the front: an answer, and the case afterwards
-pub record Reading : Type 0 where
-  pub answer : Result ℕ Fault
+-- how a part of a file is read: what a record asks for, by its kind and payload; what is carried beside the case once a call is made; and what is answered at a seal, by the offset after it, and where no bytes are left, by the offset
+pub record Part (s : Stage) (B A : Type 0) : Type 0 where
+  pub asked : ℕ → List ℕ → Asked s
+  pub carry : cases.Case → Call s → B → B
+  pub at_seal : ℕ → Result A Fault
+  pub at_end : ℕ → Result A Fault
+
+-- an answer, and the case and what is carried afterwards
+pub record Reading (B A : Type 0) : Type 0 where
+  pub answer : Result A Fault
   pub after : cases.Case
+  pub carried : B
 
--- the reading ends at an offset, and the case stays as it is
-abbrev pub stopped : cases.Case → Cause → ℕ → Reading
-stopped c e at = record { answer = Err (record { cause = e; offset = at }); after = c }
+-- the reading ends at an offset
+abbrev pub stopped : {B A : Type 0} → cases.Case → B → Cause → ℕ → Reading B A
+stopped c b e at = record { answer = Err (record { cause = e; offset = at }); after = c; carried = b }
 
--- a call of the front, and what is read behind it
-abbrev pub front_called : ℕ → Outcome ℕ → (cases.Case → Reading) → Reading
-front_called at o go = called at o.answer (stopped o.after) (go o.after)
+-- a record's call is made: a refusal ends the reading at the record's offset, else it goes on
+abbrev pub called : {B A : Type 0} → ℕ → Option Refusal → cases.Case → B → (cases.Case → B → Reading B A) → Reading B A
+called at (Some e) c b go = stopped c b (Case e) at
+called at None c b go = go c b
 
--- one record of the front, at an offset, which ends where the next one is due
-abbrev pub front_step : cases.Case → ℕ → ℕ → Result FrontRecord PayloadFault → (cases.Case → Reading) → Reading
-front_step c at behind (Err e) go = stopped c (Payload e) at
-front_step c at behind (Ok (FormRecord f)) go = front_called at (form c f.kind f.left f.right) go
-front_step c at behind (Ok (AssumeRecord f)) go = front_called at (assume c f) go
-front_step c at behind (Ok SealRecord) go = record { answer = Ok behind; after = c }
+-- one record, at an offset, which ends where the next one is due
+abbrev pub step : {s : Stage} {B A : Type 0} → Part s B A → cases.Case → B → ℕ → ℕ → Asked s → (cases.Case → B → Reading B A) → Reading B A
+step p c b at behind (Err e) go = stopped c b (Payload e) at
+step p c b at behind (Ok None) go = record { answer = p.at_seal behind; after = c; carried = b }
+step p c b at behind (Ok (Some x)) go = called at (refusal_of c x) (after_call c x) (p.carry c x b) go
 
--- the front: up to the seal record, and the answer is the offset behind it
-abbrev pub front_from : cases.Case → ℕ → Records → Reading
-front_from c at none = stopped c (Record NoSeal) at
-front_from c at (bad e) = stopped c (Record e) at
-front_from c at (more kind payload rest) =
+-- records from an offset on, up to a seal, a fault or the end
+abbrev pub read : {s : Stage} {B A : Type 0} → Part s B A → cases.Case → B → ℕ → Records → Reading B A
+read p c b at none = record { answer = p.at_end at; after = c; carried = b }
+read p c b at (bad e) = stopped c b (Record e) at
+read p c b at (more kind payload rest) =
     let behind : ℕ = at + 4 + length payload in
-    front_step c at behind (record_of_front kind payload) (λ d. front_from d behind rest)
+    step p c b at behind (p.asked kind payload) (λ d k. read p d k behind rest)
 
--- the front of a file
-unfoldable pub front : cases.Case → List ℕ → Reading
-front c bytes = front_from c 0 (records bytes)
+-- the front carries nothing: it ends with a seal record, and the answer is the offset after it
+abbrev pub front_part : Part open_stage (Unit {0}) ℕ
+front_part = record {
+  asked = front_asked;
+  carry = λ c x b. b;
+  at_seal = λ behind. Ok behind;
+  at_end = λ at. Err (record { cause = Record NoSeal; offset = at });
+}
 
--- a request's call, a line's under a page: its answer, and the case and the scratch words afterwards
-pub record RequestOutcome : Type 0 where
-  pub answer : Result ℕ Refusal
-  pub after : cases.Case
+unfoldable pub front : cases.Case → List ℕ → Reading (Unit {0}) ℕ
+front c bytes = read front_part c tt 0 (records_from bytes 0)
+
+-- the scratch words after a call
+abbrev pub scratch_after : {s : Stage} → cases.Case → Call s → List ℕ → List ℕ
+scratch_after c (form kind left right) words = words
+scratch_after c (assume f) words = words
+scratch_after c (truth r f i n) words = judging.truth_scratch c r f i words
+scratch_after c (line page l) words = words
+scratch_after c (refute r f i n) words = judging.refute_scratch c r f i words
+
+-- what the body carries beside the case
+pub record Carried : Type 0 where
   pub scratch : List ℕ
 
-abbrev pub request_made : Page → cases.Case → List ℕ → Request → RequestOutcome
-request_made page c words (form_request f) =
-    let o : Outcome ℕ = form c f.kind f.left f.right in
-    record { answer = o.answer; after = o.after; scratch = words }
-request_made page c words (line_request l) =
-    let o : Outcome ℕ = line c page l in
-    record { answer = o.answer; after = o.after; scratch = words }
-request_made page c words (refute_request claim r) =
-    let o : Outcome ℕ = refute c r claim.formula claim.position (length words) in
-    record { answer = o.answer; after = o.after; scratch = refute_scratch c r claim.formula claim.position words }
+-- at its start
+abbrev pub body_carries : List ℕ → Carried
+body_carries words = record { scratch = words }
 
--- of the body: an answer, and the case and the scratch words afterwards
-pub record BodyReading : Type 0 where
-  pub answer : Result (Unit {0}) Fault
-  pub after : cases.Case
-  pub scratch : List ℕ
+-- the body ends with the file, by a page of rules and with n scratch words; no record of it is a seal
+abbrev pub body_part : Page → ℕ → Part sealed_stage Carried (Unit {0})
+body_part page n = record {
+  asked = body_asked page n;
+  carry = λ c x b. record b { scratch = scratch_after c x b.scratch };
+  at_seal = λ behind. Ok tt;
+  at_end = λ at. Ok tt;
+}
 
--- the reading ends at an offset, and the case and the scratch words stay as they are
-abbrev pub body_stopped : cases.Case → List ℕ → Cause → ℕ → BodyReading
-body_stopped c words e at = record { answer = Err (record { cause = e; offset = at }); after = c; scratch = words }
-
--- a call of the body, and what is read behind it
-abbrev pub body_called : ℕ → RequestOutcome → (cases.Case → List ℕ → BodyReading) → BodyReading
-body_called at x go = called at x.answer (body_stopped x.after x.scratch) (go x.after x.scratch)
-
--- one record of the body
-abbrev pub body_step : Page → cases.Case → List ℕ → ℕ → Result Request PayloadFault → (cases.Case → List ℕ → BodyReading) → BodyReading
-body_step page c words at (Err e) go = body_stopped c words (Payload e) at
-body_step page c words at (Ok x) go = body_called at (request_made page c words x) go
-
--- the body: up to the end of the file
-abbrev pub body_from : Page → cases.Case → List ℕ → ℕ → Records → BodyReading
-body_from page c words at none = record { answer = Ok tt; after = c; scratch = words }
-body_from page c words at (bad e) = body_stopped c words (Record e) at
-body_from page c words at (more kind payload rest) =
-    body_step page c words at (record_of_body kind payload) (λ d left. body_from page d left (at + 4 + length payload) rest)
+-- the call that a record of the program makes
+abbrev pub call_for : Page → List ℕ → BodyRecord → Call sealed_stage
+call_for page words r = body_call page (length words) (request_of r)
 
 -- from a start offset, which must not lie past the end
-unfoldable pub body : Page → cases.Case → ℕ → List ℕ → List ℕ → BodyReading
-body page c start words bytes =
-    cond (nat_lt (length bytes) start) (body_stopped c words (Record ShortHead) start)
-    (body_from page c words start (records (drop start bytes)))
+unfoldable pub body : Page → cases.Case → ℕ → List ℕ → List ℕ → Reading Carried (Unit {0})
+body page c start words bytes = read (body_part page (length words)) c (body_carries words) start (records_from bytes start)

@@ -6,5 +6,5 @@ mod front;
 
 pub use body::read_body;
 pub use front::read_front;
-// what reading answers where it ends early
+// what reading answers where a fault ends it
 pub use records::{Cause, Fault, PayloadFault, RecordFault};

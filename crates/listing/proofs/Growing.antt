@@ -6,7 +6,7 @@ use Rattle.lists.proofs.Members.{some_same}
 use Rattle.refusals.specs.declared.Refusal.TheVariants.{NotEntered}
 use Rattle.model.specs.declared.standing.Standing.{Standing}
 use Rattle.model.specs.declared.standing.Standing.TheVariants.{Open}
-use Rattle.listing.specs.Standings.{StandSo}
+use Rattle.listing.specs.Standings.{AreStandings}
 use Rattle.model.specs.Case.{Case}
 use Rattle.model.specs.Reads.{standing_by, first_line, first_refutation_of, standing_in}
 use Rattle.listing.specs.Listing.{line_of_standing, standing_lines_to}
@@ -26,7 +26,7 @@ lines_within c f (suc g) less = elim (cases_lt f g) [
 ]
 
 -- the line of a formula, by how an array says that it stands
-pub line_told : (c : Case) (standings : List Standing) → length standings ≡ 1024 → StandSo c standings → (f i : ℕ) (d : Standing) → i ≡ f → f < length c.formulas → f < 1024
+pub line_told : (c : Case) (standings : List Standing) → length standings ≡ 1024 → AreStandings c standings → (f i : ℕ) (d : Standing) → i ≡ f → f < length c.formulas → f < 1024
     → line_of_standing f (Ok (get_or standings i d)) ≡ line_of_standing f (standing_in c f)
 line_told c standings long so f i d is there few =
     let here : get_or standings i d ≡ get_or standings f Open =

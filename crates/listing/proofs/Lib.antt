@@ -1,7 +1,6 @@
 pub mod Growing
-mod Firsts
-pub mod Reading
+mod ByFirst
+pub mod Decimals
 pub mod Room
-pub mod Spelling
-pub mod Telling
+pub mod SameListing
 pub mod LineByLine

@@ -17,10 +17,10 @@ use Rattle.listing.specs.declared.unread.Unread.TheVariants.{TooLong, Refused}
 use Rattle.listing.specs.Listing.{line, line_of_counts, line_of_standing, standing_lines_to, standing_lines, line_of_ending, listing}
 use Rattle.listing.specs.LineByLine.{lines, IsFor, HasLineFor, Says, LinesForSettled}
 use Rattle.listing.specs.Room.{Fits64}
-use Rattle.listing.specs.Telling.{CountsFit}
-use Rattle.listing.proofs.Reading.{Digits, decimal_digits, same_number, StartsAbove, number_not_above}
+use Rattle.listing.specs.SameListing.{CountsFit}
+use Rattle.listing.proofs.Decimals.{Digits, decimal_digits, same_number, StartsAbove, number_not_above}
 use Rattle.listing.proofs.Room.{layer_small, number_small}
-use Rattle.listing.proofs.Telling.{Small, stands_small, entered, past}
+use Rattle.listing.proofs.SameListing.{Small, stands_small, entered, past}
 
 -- a text without byte 10
 abbrev Whole : List ℕ → Type 0
@@ -46,7 +46,7 @@ digits_whole (d ∷ ds) digits = All-cons (λ b. eqb b 10 ≡ false) d ds (ne_eq
 number_whole : (n : ℕ) → n < 2 ^ 64 → Whole (decimal n)
 number_whole n small = digits_whole (decimal n) (decimal_digits n small)
 
--- a word and a number behind a text
+-- a word and a number after a text
 field_whole : (xs word : List ℕ) (n : ℕ) → Whole xs → without word ≡ true → n < 2 ^ 64 → Whole (xs ++ word ++ decimal n)
 field_whole xs word n whole is small =
     All-append (λ b. eqb b 10 ≡ false) (xs ++ word) (decimal n) (All-append (λ b. eqb b 10 ≡ false) xs word whole (word_whole word is)) (number_whole n small)
@@ -93,7 +93,7 @@ settled_whole : (k n : ℕ) (word : List ℕ) → k < 2 ^ 64 → n < 2 ^ 64 → 
 settled_whole k n word few small is = field_whole (decimal k) word n (number_whole k few) is small
 
 module _ (k : ℕ) (few : k < 2 ^ 64) (t l : List ℕ) where
-  -- a line of a text that the line of a formula begins is that one or one behind it
+  -- a line of a text that the line of a formula begins is that one or one after it
   line_told : (r : Result Standing Refusal) → FewIn r → In (line_of_standing k r ++ t) l → Tells k r l ⊎ In t l
   unfolding line_of_standing
   line_told (Ok (Derived n)) small there =
@@ -133,7 +133,7 @@ module _ (c : Case) (fits : CountsFit (counts_of c)) where
   unfolding standing_lines_to
   one_behind k t = append_assoc (standing_lines_to c k) (line_of_standing k (standing_in c k)) t
 
-  -- of the lines of the formulas below a number, and those of a text behind them
+  -- of the lines of the formulas below a number, and those of a text after them
   lines_told : (k : ℕ) (t l : List ℕ) → k < 2 ^ 64 → In (standing_lines_to c k ++ t) l → ((j : ℕ) × (j < k) × Tells j (standing_in c j) l) ⊎ In t l
   unfolding standing_lines_to
   lines_told zero t l few there = inr there

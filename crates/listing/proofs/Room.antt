@@ -13,7 +13,7 @@ use Rattle.listing.specs.declared.unread.Unread.{Unread}
 use Rattle.listing.specs.declared.unread.Unread.TheVariants.{TooLong, Refused}
 use Rattle.listing.specs.Listing.{line_of_counts, line_of_standing, standing_lines_to, line_of_ending}
 use Rattle.listing.specs.Room.{Fits64, AlwaysRoom}
-use Rattle.listing.proofs.Spelling.{decimal_short, digits_four}
+use Rattle.listing.proofs.Decimals.{decimal_short, digits_four}
 
 pub layer_small : (e : Cause) → layer_of e < 2 ^ 64
 layer_small e = grind arith

@@ -1,6 +1,6 @@
 pub mod Listing
 pub mod Room
-pub mod Telling
+pub mod SameListing
 pub mod LineByLine
 pub mod Standings
 pub mod Written

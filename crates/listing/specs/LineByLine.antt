@@ -8,9 +8,9 @@ use Rattle.model.specs.declared.standing.Standing.TheVariants.{Derived, Refuted,
 use Rattle.listing.specs.declared.unread.Unread.{Unread}
 use Rattle.listing.specs.Listing.{listing}
 use Rattle.listing.specs.Room.{Fits64}
-use Rattle.listing.specs.Telling.{CountsFit}
+use Rattle.listing.specs.SameListing.{CountsFit}
 
--- the lines of a text: what stands in front of each byte 10, and what stands behind the last
+-- the lines of a text: what stands in front of each byte 10, and what stands after the last
 abbrev pub lines : List ℕ → List (List ℕ)
 lines text = slice_split (λ b. b == 10) text
 

@@ -11,7 +11,7 @@ Fits64 (Ok n) = n < 2 ^ 64
 Fits64 (Err (Refused f)) = f.offset < 2 ^ 64
 Fits64 (Err TooLong) = Unit {0}
 
--- so many bytes have room for every listing of a case that has no more of each than a case takes
+-- this many bytes have room for every listing of a case that has no more of each than a case takes
 abbrev pub AlwaysRoom : ℕ → Type 0
 AlwaysRoom most = (c : Case) (e : Result ℕ Unread) → length c.formulas ≤ 1024 → length c.assumptions ≤ 16 → length c.lines ≤ 512 → length c.refutations ≤ 64
     → Fits64 e → length (listing c e) ≤ most

@@ -11,6 +11,6 @@ listing_number BufferTooShort = 27
 abbrev pub written_answer : List ℕ → List ℕ → Result ℕ ListingRefusal
 written_answer text buffer = cond (nat_le (length text) (length buffer)) (Ok (length text)) (Err BufferTooShort)
 
--- the buffer afterwards: what lies behind the text stays, and all of it if there is no room
+-- the buffer afterwards: what lies after the text stays, and all of it if there is no room
 abbrev pub written_after : List ℕ → List ℕ → List ℕ
 written_after text buffer = cond (nat_le (length text) (length buffer)) (text ++ drop (length text) buffer) buffer

@@ -2,14 +2,18 @@
 ghost use Rattle.std.specs.Prelude.{◌≡◌};
 ghost use Rattle.listing.specs.Written.{listing_number};
 
-#[derive(Clone, Copy, PartialEq, Eq, Debug)]
+use thiserror::Error;
+
+/// Why no listing is written.
+#[derive(Clone, Copy, PartialEq, Eq, Debug, Error)]
 pub enum ListingRefusal {
-    // the buffer is shorter than the listing
+    /// 27: the buffer is shorter than the listing.
+    #[error("the buffer is shorter than the listing")]
     BufferTooShort = 27,
 }
 
 impl ListingRefusal {
-    // The number that a caller is told. By a name, and no `From` or trait, so that a call says which number it is.
+    /// The number that a caller is told.
     pub fn number(self) -> u8
         ensures { result ≡ listing_number self }
     {

@@ -1,8 +1,8 @@
-// How the formulas of a case stand, and the lines of those that are not open, one behind the other.
-ghost use Rattle.std.specs.Prelude.{◌≡◌, ◌+◌, ◌*◌, ◌≤◌, ◌++◌, length, take};
+// How the formulas of a case stand, and the lines of those that are not open, one after another.
+ghost use Rattle.std.specs.Prelude.{◌≡◌, ◌+◌, ◌*◌, ◌≤◌, ◌++◌, length, set, take};
 ghost use Rattle.cases.specs.Model.{sealed};
 ghost use Rattle.listing.specs.Listing.{standing_lines};
-ghost use Rattle.listing.specs.Standings.{RefutedSo, StandSo};
+ghost use Rattle.listing.specs.Standings.{AreRefutedStandings, AreStandings};
 ghost use Rattle.listing.specs.declared.text.TheConstants.{TEXT_MOST};
 
 use crate::lines::standing_line;
@@ -18,41 +18,51 @@ pub(crate) type Standings = [Standing; PLACES];
 
 // The standings by refutations alone.
 fn refuted(case: &SealedCase) -> Standings
-    ensures { RefutedSo (sealed case.now) result }
+    ensures { AreRefutedStandings (sealed case.now) result }
 {
     let mut standings = [Standing::Open; PLACES];
-    for number in (0..case.counts().refutations as u16).rev() {
-        if let Ok(refutation) = case.refutation(number) {
-            let place = usize::from(refutation.formula);
-            if place < PLACES {
-                standings[place] = Standing::Refuted(number);
-            }
-        }
+    let refutations = case.refutations();
+    for number in (0..refutations.len()).rev() {
+        put(
+            &mut standings,
+            refutations[number].formula,
+            Standing::Refuted(number as u16),
+        );
     }
     standings
 }
 
 pub(crate) fn standings(case: &SealedCase) -> Standings
-    ensures { StandSo (sealed case.now) result }
+    ensures { AreStandings (sealed case.now) result }
 {
     let mut standings = refuted(case);
-    for number in (0..case.counts().lines as u16).rev() {
-        if let Ok(line) = case.held_line(number) {
-            let place = usize::from(line.formula);
-            if place < PLACES {
-                standings[place] = Standing::Derived(number);
-            }
-        }
+    let lines = case.lines();
+    for number in (0..lines.len()).rev() {
+        put(
+            &mut standings,
+            lines[number].formula,
+            Standing::Derived(number as u16),
+        );
     }
     standings
+}
+
+// Writes how a formula stands; a number that no formula of a case has changes nothing.
+fn put(standings: &mut Standings, formula: u16, standing: Standing)
+    ensures { standings.new ≡ set standings.old formula standing }
+{
+    let place = usize::from(formula);
+    if place < PLACES {
+        standings[place] = standing;
+    }
 }
 
 // How long the lines of all formulas are.
 #[tactic(auto, using(crate::proofs::Growing::lines_more), unfolding(crate::specs::Listing::standing_lines_to))]
 pub(crate) fn standings_len(case: &SealedCase, standings: &Standings) -> usize
-    requires { StandSo (sealed case.now) standings.now }
+    requires { AreStandings (sealed case.now) standings.now }
     ensures value { result ≡ length (standing_lines (sealed case.now)) }
-    ensures within { result ≤ TEXT_MOST * 1024 }
+    ensures within { result ≤ TEXT_MOST * PLACES }
 {
     let mut len = 0;
     for number in 0..case.counts().formulas as u16 {
@@ -66,7 +76,7 @@ pub(crate) fn standings_len(case: &SealedCase, standings: &Standings) -> usize
 // Copies the lines of all formulas into a buffer of their length.
 #[tactic(auto, unfolding(crate::specs::Listing::standing_lines_to))]
 pub(crate) fn copy_standings(case: &SealedCase, standings: &Standings, buffer: &mut [u8])
-    requires so { StandSo (sealed case.now) standings.now }
+    requires so { AreStandings (sealed case.now) standings.now }
     requires long { length buffer.old ≡ length (standing_lines (sealed case.now)) }
     ensures { buffer.new ≡ standing_lines (sealed case.now) }
 {
@@ -78,7 +88,7 @@ pub(crate) fn copy_standings(case: &SealedCase, standings: &Standings, buffer: &
     }
 }
 
-// Copies a line to a place of a buffer, and answers the place behind it.
+// Copies a line to a place of a buffer, and answers the place after it.
 #[tactic(auto, using(std::proofs::lemmas::Slice::overwrites))]
 fn copy_at(line: &[u8], buffer: &mut [u8], at: usize) -> usize
     requires { at + length line.now ≤ length buffer.old }

@@ -13,8 +13,8 @@ pub(crate) const DIGITS_MOST: usize = 20;
 // Numbers are written in decimal.
 const BASE: usize = 10;
 
-// Fixed room in the place of a `String`: nothing is allocated after a case is made. And in the place of `write!` the
-// methods below: of that no clause says when it succeeds, and a listing is written in every case.
+// Fixed room and no `String`: nothing is allocated after a case is made. And methods of its own and no `write!`: no clause
+// says when that succeeds, and a listing is written in every case.
 #[derive(Drop)]
 pub(crate) struct Text {
     bytes: [u8; TEXT_MOST],

@@ -4,10 +4,12 @@ ghost use Rattle.listing.specs.declared.unread.Unread.TheVariants.{Refused};
 
 use records::Fault;
 
+/// Why a file was not read to its end.
 #[derive(Clone, Copy, PartialEq, Eq, Debug)]
 pub enum Unread {
-    // the input is longer than a file may be, and nothing of it was read
+    /// The input is longer than a file may be, and nothing of it was read.
     TooLong,
+    /// The reading ended at a record that was refused, or where one was due.
     Refused(Fault),
 }
 

@@ -4,7 +4,7 @@ ghost use Rattle.cases.specs.Model.{sealed};
 ghost use Rattle.listing.specs.Listing.{listing};
 ghost use Rattle.listing.specs.LineByLine.{LinesForSettled};
 ghost use Rattle.listing.specs.Room.{AlwaysRoom};
-ghost use Rattle.listing.specs.Telling.{ListingTells};
+ghost use Rattle.listing.specs.SameListing.{ListingTells};
 ghost use Rattle.listing.specs.Written.{written_answer, written_after};
 
 use crate::lines::{counts_line, ending_line};
@@ -13,13 +13,13 @@ use crate::standings::{copy_standings, standings, standings_len};
 use crate::unread::Unread;
 use cases::SealedCase;
 
-// A buffer of so many bytes is never too short.
+/// A buffer of this many bytes is never too short.
 pub const LISTING_MOST: usize = 20_480;
 
-// Writes the listing to the front of a buffer, and answers its length. All lines are measured before the first is
-// copied, so that a buffer which is too short stays as it is. Into a caller's buffer, and no `Vec`: nothing is
-// allocated after a case is made.
-#[tactic(auto, using(crate::proofs::Room::always_room, crate::proofs::Telling::listing_tells, crate::proofs::LineByLine::lines_for_settled))]
+/// Writes the listing of a case to the front of a buffer, and answers its length in bytes: a line of counts, a line for each
+/// formula that is derived or refuted, and a line that says how the reading of its file ended. Bytes after the listing
+/// stay. A buffer that is shorter than the listing is refused with `BufferTooShort`, 27, and stays as it is.
+#[tactic(auto, using(crate::proofs::Room::always_room, crate::proofs::SameListing::listing_tells, crate::proofs::LineByLine::lines_for_settled))]
 pub fn write_listing(
     case: &SealedCase,
     ending: Result<usize, Unread>,

@@ -6,7 +6,7 @@ use Rattle.refusals.specs.declared.Refusal.TheVariants.{NotEntered, AssumptionsF
 use Rattle.logic.specs.Run.{Run}
 use Rattle.calculus.specs.declared.verdict.Verdict.{Verdict}
 use Rattle.calculus.specs.Pages.{Page}
-use Rattle.truths.specs.Along.{with_rows}
+use Rattle.row_writer.specs.RowsAlong.{with_rows}
 use Rattle.lists.specs.Adding.{place, add_answer, add_after}
 use Rattle.model.specs.declared.line.Line.{Line}
 use Rattle.model.specs.Case.{Case}

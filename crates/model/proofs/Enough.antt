@@ -5,7 +5,7 @@ use Rattle.refusals.specs.declared.Refusal.TheVariants.{ScratchTooShort}
 use Rattle.refusals.specs.Numbers.{number_of}
 use Rattle.refusals.proofs.Answers.{ok_not_err}
 use Rattle.logic.specs.Run.{Run}
-use Rattle.truths.specs.Searching.{first_failing}
+use Rattle.row_writer.specs.Searching.{first_failing}
 use Rattle.model.specs.Case.{Case}
 use Rattle.model.specs.Calls.{Outcome, unchanged}
 use Rattle.model.specs.Judging.{check, once_checked, true_at, judged_by, held_by, truth, refute}

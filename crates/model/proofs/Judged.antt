@@ -13,10 +13,10 @@ use Rattle.logic.specs.Truth.{Holds, Throughout}
 use Rattle.logic.proofs.Decided.{decides, throughout, fails}
 use Rattle.formulas.specs.Forming.{numbered}
 use Rattle.lists.proofs.Members.{nth_within}
-use Rattle.truths.specs.Along.{with_rows}
-use Rattle.truths.proofs.Along.{row_along, row_behind}
-use Rattle.truths.specs.Searching.{first_failing}
-use Rattle.truths.proofs.Failing.{failing, none_failing}
+use Rattle.row_writer.specs.RowsAlong.{with_rows}
+use Rattle.row_writer.proofs.RowsAlong.{row_along, row_behind}
+use Rattle.row_writer.specs.Searching.{first_failing}
+use Rattle.row_writer.proofs.Failing.{failing, none_failing}
 use Rattle.model.specs.Case.{Case}
 use Rattle.model.specs.Calls.{Outcome, unchanged}
 use Rattle.model.specs.Judging.{check, once_checked, words_once_checked, true_at, truth, truth_scratch, judged_by, judge, held_by, with_room, words_with_room, refute, refute_scratch}

@@ -5,8 +5,8 @@ use Rattle.logic.specs.Formula.{Formula}
 use Rattle.logic.specs.Run.{Run}
 use Rattle.calculus.specs.Pages.{Page}
 use Rattle.lists.proofs.Growing.{grown_longer}
-use Rattle.truths.specs.Along.{with_rows}
-use Rattle.truths.proofs.Along.{rows_over}
+use Rattle.row_writer.specs.RowsAlong.{with_rows}
+use Rattle.row_writer.proofs.RowsAlong.{rows_over}
 use Rattle.model.specs.declared.line.Line.{Line}
 use Rattle.model.specs.Case.{Case}
 use Rattle.model.specs.Calls.{Outcome}

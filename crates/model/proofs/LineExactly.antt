@@ -5,10 +5,10 @@ use Rattle.std.proofs.lemmas.Bool.{cond_both, cond-true, cond-false, lt-ltb, and
 use Rattle.logic.specs.Formula.{Formula}
 use Rattle.calculus.specs.declared.verdict.Verdict.{Verdict}
 use Rattle.calculus.specs.declared.verdict.Verdict.TheVariants.{Admitted}
-use Rattle.calculus.specs.Rules.{Gives, taut, ltl1, ltl2, ltl3, mp, nex, ind}
+use Rattle.calculus.specs.Rules.{Gives}
 use Rattle.calculus.specs.Pages.{Verdicts, Page}
 use Rattle.calculus.specs.Published.{published}
-use Rattle.calculus.proofs.Exact.{published_exact}
+use Rattle.calculus.proofs.Exact.{published_exact, published_numbers}
 use Rattle.formulas.specs.Forming.{numbered}
 use Rattle.lists.proofs.Members.{nth_within}
 use Rattle.model.specs.declared.line.Line.{Line}
@@ -22,16 +22,6 @@ use Rattle.model.proofs.AssumptionLines.{assumption_admitted, assumption_admits}
 use Rattle.model.proofs.LineGoes.{Allowed, line_allowed}
 use Rattle.model.proofs.Checks.{line_judged_as}
 use Rattle.model.proofs.LineRelation.{stated}
-
--- the axioms and rules have the numbers 1 to 7
-pub rule_number : {rule : ℕ} {X : Formula} {P Q : Option Formula} → Gives rule X P Q → (1 ≤ rule) × (rule ≤ 7)
-rule_number (taut A t) = (omega arith, omega arith)
-rule_number (ltl1 A) = (omega arith, omega arith)
-rule_number (ltl2 A B) = (omega arith, omega arith)
-rule_number (ltl3 A) = (omega arith, omega arith)
-rule_number (mp A B) = (omega arith, omega arith)
-rule_number (nex A) = (omega arith, omega arith)
-rule_number (ind A B) = (omega arith, omega arith)
 
 module _ (c : Case) where
   -- the place of a premise is held
@@ -74,7 +64,7 @@ module _ (c : Case) where
     given_admitted : (1 ≤ l.rule → l.rule ≤ 7 → page.verdict l.rule ≡ published l.rule) → CalculusGives c l → line_verdict c page l ≡ Admitted
     given_admitted publishes (as_assumption s a) = assumption_line_admitted a
     given_admitted publishes (by_its_rule s gives few) =
-        let between = rule_number gives in
+        let between = published_numbers gives in
         page_verdict s (λ zero. omega arith)
         ∙ ap (λ v. v s.formula s.first s.second) (publishes between.0 between.1)
         ∙ (published_exact l.rule s.formula s.first s.second).1 (gives, few)

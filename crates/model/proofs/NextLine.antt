@@ -8,7 +8,7 @@ use Rattle.calculus.specs.declared.verdict.Verdict.TheVariants.{Admitted}
 use Rattle.calculus.specs.Pages.{Page}
 use Rattle.calculus.specs.Published.{published}
 use Rattle.calculus.specs.Derivations.{DerivationLine, PremiseOf, no_premise as no_premise_of, on_earlier, Justified, by_assumption, by_rule, by_derived_rule, Derivation}
-use Rattle.calculus.proofs.Exact.{published_exact, derived_exact, derived_numbers}
+use Rattle.calculus.proofs.Exact.{published_exact, published_numbers, derived_exact, derived_numbers}
 use Rattle.lists.proofs.Members.{some_same, nth_within, nth_there, nth_pushed}
 use Rattle.model.specs.declared.line.Line.{Line}
 use Rattle.model.specs.Case.{Case}
@@ -16,7 +16,7 @@ use Rattle.model.specs.Describes.{Number}
 use Rattle.model.specs.Lines.{line_verdict, line}
 use Rattle.model.specs.Outcomes.{Premise, no_premise, on_line, Stated, line_held}
 use Rattle.model.specs.Entering.{Publishes, entered_as}
-use Rattle.model.proofs.LineExactly.{rule_number, page_verdict, assumption_line_admitted, stated_held}
+use Rattle.model.proofs.LineExactly.{page_verdict, assumption_line_admitted, stated_held}
 
 module _ (D : Derivation) where
   -- a case has the first n lines of a derivation, and no others: each has the formula of the derivation's line with the same number
@@ -66,7 +66,7 @@ module _ (D : Derivation) where
                 (record { rule = rule; first = first; second = second; place = a.0; assumed = a.1 });
           }
       justified_admits (by_rule P Q first second gives) =
-          let number = rule_number gives in
+          let number = published_numbers gives in
           from_premises first second (λ zero. omega (arith, number.0))
           (ap (λ v. v s.formula P Q) (publishes.0 number.0 number.1) ∙ (published_exact s.rule s.formula P Q).1 (gives, few))
       justified_admits (by_derived_rule P Q first second derives) =

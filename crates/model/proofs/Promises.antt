@@ -1,5 +1,5 @@
 -- What is promised of all cases and of all histories.
-use Rattle.truths.proofs.Along.{rest_stays}
+use Rattle.row_writer.proofs.RowsAlong.{rest_stays}
 use Rattle.model.specs.Promises.{Promises}
 use Rattle.model.proofs.Exact.{form_exact, assume_exact}
 use Rattle.model.proofs.LineRelation.{line_exact}

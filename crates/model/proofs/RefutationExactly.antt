@@ -5,7 +5,7 @@ use Rattle.logic.specs.Run.{Run}
 use Rattle.logic.specs.Truth.{Holds}
 use Rattle.logic.proofs.Decided.{decides}
 use Rattle.formulas.specs.Forming.{numbered}
-use Rattle.truths.specs.Searching.{first_failing}
+use Rattle.row_writer.specs.Searching.{first_failing}
 use Rattle.model.specs.Case.{Case}
 use Rattle.model.specs.Judging.{true_at, judged_by, judge}
 use Rattle.model.specs.Breaking.{Breaks}

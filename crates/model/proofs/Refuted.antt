@@ -4,7 +4,7 @@ use Rattle.std.specs.List.{slice_get}
 use Rattle.refusals.proofs.Answers.{ok_not_err}
 use Rattle.logic.specs.Run.{Run}
 use Rattle.lists.proofs.Members.{nth_push}
-use Rattle.truths.specs.Searching.{first_failing}
+use Rattle.row_writer.specs.Searching.{first_failing}
 use Rattle.model.specs.Case.{Case}
 use Rattle.model.specs.Judging.{true_at, judged_by, judge, refute}
 use Rattle.model.specs.Breaking.{Breaks}

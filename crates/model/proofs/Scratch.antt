@@ -4,10 +4,10 @@ use lib.Dec
 use Rattle.std.specs.List.{slice_get}
 use Rattle.std.proofs.lemmas.Bool.{cond-true, and_from, le-leb}
 use Rattle.logic.specs.Run.{Run}
-use Rattle.truths.specs.Along.{rows_fit, with_rows, rows_after, row_says}
-use Rattle.truths.proofs.Along.{row_along, with_rows_length}
-use Rattle.truths.specs.Searching.{first_failing}
-use Rattle.truths.proofs.Failing.{first_failing_same}
+use Rattle.row_writer.specs.RowsAlong.{rows_fit, with_rows, rows_after, row_says}
+use Rattle.row_writer.proofs.RowsAlong.{row_along, with_rows_length}
+use Rattle.row_writer.specs.Searching.{first_failing}
+use Rattle.row_writer.proofs.Failing.{first_failing_same}
 use Rattle.model.specs.Case.{Case}
 use Rattle.model.specs.Calls.{Outcome}
 use Rattle.model.specs.Judging.{check, true_at, refute_scratch}

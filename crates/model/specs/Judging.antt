@@ -5,8 +5,8 @@ use Rattle.refusals.specs.declared.Refusal.TheVariants.{NotEntered, RunTooLong, 
 use Rattle.logic.specs.Run.{Run}
 use Rattle.logic.specs.Decide as decide
 use Rattle.formulas.specs.Forming.{numbered}
-use Rattle.truths.specs.Along.{with_rows}
-use Rattle.truths.specs.Searching.{first_failing}
+use Rattle.row_writer.specs.RowsAlong.{with_rows}
+use Rattle.row_writer.specs.Searching.{first_failing}
 use Rattle.model.specs.Case.{Case}
 use Rattle.model.specs.Calls.{Outcome, unchanged}
 

@@ -3,7 +3,7 @@ use Rattle.std.specs.Prelude.{ℕ, ◌<◌, List, [], ◌∷◌, length, Some, N
 use Rattle.refusals.specs.declared.Refusal.{Refusal}
 use Rattle.logic.specs.Formula.{Formula}
 use Rattle.logic.specs.Run.{Run}
-use Rattle.truths.specs.Along.{with_rows}
+use Rattle.row_writer.specs.RowsAlong.{with_rows}
 use Rattle.model.specs.Case.{Case}
 use Rattle.model.specs.Outcomes.{Judgeable}
 use Rattle.model.specs.History.{Stage, sealed_stage, Call, truth, refute, after_call, Refused}

@@ -9,7 +9,7 @@ use Rattle.logic.specs.Run.{Run}
 use Rattle.logic.specs.Truth.{Holds, Throughout}
 use Rattle.calculus.specs.declared.verdict.Verdict.TheVariants.{Admitted, NotAdmitted, BeyondLimit}
 use Rattle.calculus.specs.Pages.{Page}
-use Rattle.truths.specs.Along.{with_rows}
+use Rattle.row_writer.specs.RowsAlong.{with_rows}
 use Rattle.model.specs.declared.line.Line.{Line}
 use Rattle.model.specs.Case.{Case}
 use Rattle.model.specs.Calls.{Outcome, unchanged}

@@ -14,7 +14,7 @@ use Rattle.model.specs.StandardPages.{published_page}
 use Rattle.calculus.specs.Derivations.{DerivationLine, Derivation}
 use Rattle.formulas.specs.declared.entry.Entry.{Entry}
 use Rattle.formulas.specs.Entries.{kind_of, left_of, right_of}
-use Rattle.truths.specs.Along.{with_rows, row_says}
+use Rattle.row_writer.specs.RowsAlong.{with_rows, row_says}
 use Rattle.model.specs.declared.line.Line.{Line}
 use Rattle.model.specs.declared.standing.Standing.{Standing}
 use Rattle.model.specs.declared.standing.Standing.TheVariants.{Derived, Refuted, Open}

@@ -3,7 +3,7 @@ use Rattle.std.proofs.Common.{◌≡◌, ℕ, zero, suc, ◌+◌, ◌≤◌, Lis
 use Rattle.records.specs.declared.fault.RecordFault.{RecordFault}
 use Rattle.records.specs.Records.{Content, Records, more, first_content, led_by, cut, records}
 
--- records led by one record are the same if those behind it are
+-- records led by one record are the same if those after it are
 led_same : (r : Result (Option Content) RecordFault) (f g : ℕ → Records) → ((k : ℕ) → f (4 + k) ≡ g (4 + k)) → led_by r f ≡ led_by r g
 led_same (Ok None) f g same = refl
 led_same (Err e) f g same = refl
@@ -19,7 +19,7 @@ enough (suc m) zero (x ∷ xs) l h = absurd (omega arith)
 enough (suc m) (suc n) bytes l h =
     led_same (first_content bytes) _ _ (λ k. enough m n (drop (4 + k) bytes) (simp length-drop (omega arith)) (simp length-drop (omega arith)))
 
--- the first record, and the records behind it
+-- the first record, and the records after it
 pub records_led : (bytes : List ℕ) → records bytes ≡ led_by (first_content bytes) (λ behind. records (drop behind bytes))
 unfolding records
 records_led [] = refl

@@ -59,7 +59,7 @@ pub data Stand : List ℕ → Records → Type 0 where
   stand_bad : {bytes : List ℕ} {e : RecordFault} → NoRecord bytes e → Stand bytes (bad e)
   stand_more : (r : Content) (rest : List ℕ) {rs : Records} → Writable r → Stand rest rs → Stand (written r ++ rest) (more r.kind r.payload rs)
 
--- what stands first, and what stands behind it
+-- what stands first, and what stands after it
 led_stand : {bytes : List ℕ} {r : Result (Option Content) RecordFault} (f : ℕ → Records) → First bytes r → Bytes bytes
     → ((k : ℕ) → 4 ≤ k → k ≤ length bytes → Bytes (drop k bytes) → Stand (drop k bytes) (f k)) → Stand bytes (led_by r f)
 led_stand f first_none are behind = stand_none

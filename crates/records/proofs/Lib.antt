@@ -1,5 +1,5 @@
 pub mod Cutting
-pub mod Left
+pub mod NextItem
 pub mod Extents
 pub mod ReadBack
 pub mod TwoBytes

@@ -1,5 +1,5 @@
 -- The records of a file from an offset on, and what the program's records hold.
-use Rattle.std.specs.Prelude.{◌≡◌, ℕ, ◌+◌, ◌≤◌, cond, List, length, drop, Some, None, Ok, Err, Option, Result, MatchOption, MatchResult, nat_lt}
+use Rattle.std.specs.Prelude.{◌≡◌, ℕ, ◌+◌, ◌≤◌, if◌then◌else◌, List, length, drop, Some, None, Ok, Err, Option, Result, MatchOption, MatchResult, nat_lt}
 use Rattle.records.specs.declared.fault.ErrorAt.{ErrorAt}
 use Rattle.records.specs.declared.fault.RecordFault.{RecordFault}
 use Rattle.records.specs.declared.fault.RecordFault.TheVariants.{ShortHead}
@@ -15,9 +15,9 @@ content (Err e) = Err e
 
 -- the record at an offset, which must not lie past the end
 abbrev pub content_at : List ℕ → ℕ → Result (Option Content) RecordFault
-content_at bytes at = cond (nat_lt (length bytes) at) (Err ShortHead) (first_content (drop at bytes))
+content_at bytes at = if nat_lt (length bytes) at then Err ShortHead else first_content (drop at bytes)
 
--- a record where it stands in a file: the offset of its head, its kind, its payload, and the offset behind it
+-- a record where it stands in a file: the offset of its head, its kind, its payload, and the offset after it
 pub record Placed : Type 0 where
   pub offset : ℕ
   pub kind : ℕ
@@ -25,12 +25,12 @@ pub record Placed : Type 0 where
   pub behind : ℕ
 
 -- what is yielded for the record that is found at an offset: nothing where there are no more bytes, or what is wrong there
-abbrev pub placed : ℕ → Result (Option Content) RecordFault → Option (Result Placed (ErrorAt RecordFault))
-placed at (Ok None) = None
-placed at (Ok (Some r)) = Some (Ok (record { offset = at; kind = r.kind; payload = r.payload; behind = at + 4 + length r.payload }))
-placed at (Err e) = Some (Err (record { error = e; offset = at }))
+abbrev pub item_found : ℕ → Result (Option Content) RecordFault → Option (Result Placed (ErrorAt RecordFault))
+item_found at (Ok None) = None
+item_found at (Ok (Some r)) = Some (Ok (record { offset = at; kind = r.kind; payload = r.payload; behind = at + 4 + length r.payload }))
+item_found at (Err e) = Some (Err (record { error = e; offset = at }))
 
--- the offset at which the search goes on: behind a record, and else at the end
+-- the offset at which the search goes on: after a record, and else at the end
 abbrev pub behind_item : ℕ → Option (Result Placed (ErrorAt RecordFault)) → ℕ
 behind_item end None = end
 behind_item end (Some (Ok r)) = r.behind
@@ -38,7 +38,7 @@ behind_item end (Some (Err e)) = end
 
 -- what a call of `next` yields of a file from an offset on, and the offset afterwards
 abbrev pub next_item : List ℕ → ℕ → Option (Result Placed (ErrorAt RecordFault))
-next_item bytes at = placed at (content_at bytes at)
+next_item bytes at = item_found at (content_at bytes at)
 
 abbrev pub next_offset : List ℕ → ℕ → ℕ
 next_offset bytes at = behind_item (length bytes) (next_item bytes at)
@@ -63,13 +63,13 @@ pub record IsPlaced (bytes : List ℕ) (at : ℕ) (r : declared.Record) : Type 0
 
 -- the records from an offset on, which must not lie past the end
 abbrev pub records_from : List ℕ → ℕ → Records
-records_from bytes at = cond (nat_lt (length bytes) at) (bad ShortHead) (records (drop at bytes))
+records_from bytes at = if nat_lt (length bytes) at then bad ShortHead else records (drop at bytes)
 
 -- the records that are left
 abbrev pub records_left : iterator.Records → Records
 records_left s = records_from s.file.now s.offset
 
--- a record was found first, and what is left then is behind it
+-- a record was found first, and what is left then is after it
 pub record YieldsMore (s t : iterator.Records) (r : declared.Record) : Type 0 where
   pub led : records_left s ≡ more r.kind r.payload.now (records_left t)
   pub place : IsPlaced s.file.now s.offset r

@@ -1,5 +1,5 @@
 -- A file's bytes as records.
-use Rattle.std.specs.Prelude.{ℕ, zero, suc, ◌+◌, cond, List, length, take, drop, Some, None, Ok, Err, Option, Result, ◌==◌, nat_lt}
+use Rattle.std.specs.Prelude.{ℕ, zero, suc, ◌+◌, List, length, take, drop, Some, None, Ok, Err, Option, Result, ◌==◌, if◌then◌else◌, nat_lt}
 use Rattle.runs.specs.Bytes.{word}
 use Rattle.records.specs.declared.fault.RecordFault.{RecordFault}
 use Rattle.records.specs.declared.fault.RecordFault.TheVariants.{ShortHead, PayloadCut}
@@ -12,10 +12,10 @@ pub record Content : Type 0 where
 -- the first record, if there are bytes: a head of four bytes has the payload's length and the kind
 abbrev pub first_content : List ℕ → Result (Option Content) RecordFault
 first_content bytes =
-    cond (length bytes == 0) (Ok None)
-    (cond (nat_lt (length bytes) 4) (Err ShortHead)
-    (cond (nat_lt (length bytes) (4 + word bytes 0)) (Err PayloadCut)
-    (Ok (Some (record { kind = word bytes 2; payload = take (word bytes 0) (drop 4 bytes) })))))
+    if length bytes == 0 then Ok None
+    else (if nat_lt (length bytes) 4 then Err ShortHead
+    else (if nat_lt (length bytes) (4 + word bytes 0) then Err PayloadCut
+    else Ok (Some (record { kind = word bytes 2; payload = take (word bytes 0) (drop 4 bytes) }))))
 
 -- records one after another, each with its kind and payload, up to the end of the bytes or a fault
 pub data Records : Type 0 where
@@ -23,7 +23,7 @@ pub data Records : Type 0 where
   bad : RecordFault → Records
   more : ℕ → List ℕ → Records → Records
 
--- the first record, and those from the offset behind it on
+-- the first record, and those from the offset after it on
 abbrev pub led_by : Result (Option Content) RecordFault → (ℕ → Records) → Records
 led_by (Ok None) from = none
 led_by (Err e) from = bad e

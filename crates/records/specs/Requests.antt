@@ -9,8 +9,8 @@ use Rattle.records.specs.Payloads.{Request, form_request, line_request, refute_r
 abbrev pub request_of : BodyRecord → Request
 request_of (FormRecord form) = form_request form
 request_of (LineRecord line) = line_request line
-request_of (TableRecord claim run) = refute_request claim (table_meaning run)
-request_of (PulseRecord claim run) = refute_request claim (pulse_meaning run)
+request_of (TableRecord refutation run) = refute_request refutation (table_meaning run)
+request_of (PulseRecord refutation run) = refute_request refutation (pulse_meaning run)
 
 abbrev pub requested : {E : Type 0} → Result BodyRecord E → Result Request E
 requested (Ok r) = Ok (request_of r)

@@ -2,35 +2,33 @@
 ghost use Rattle.std.specs.Prelude.{◌≡◌};
 ghost use Rattle.runs.specs.Pulses.{pulse_check, pulse_run};
 ghost use Rattle.runs.specs.Tables.{table_check, table_run};
-ghost use Rattle.records.specs.Payloads.{claim_in, line_written, long, place_of, record_of_body, refute_in};
+ghost use Rattle.records.specs.Payloads.{refutation_in, line_written, long, place_of, record_of_body, refute_in};
 ghost use Rattle.records.specs.Requests.{requested};
 
 use crate::fault::PayloadFault;
 use crate::payload::{Form, RecordKind, form_record};
 use crate::record::Record;
-use model::Line;
+use model::{Line, Refutation};
 use runs::{PulseRun, TableRun};
 
 // In a field for a place: no place.
 const EMPTY_PLACE: u16 = 65_535;
 
-// The formula that a refutation breaks, and the position at which it does.
-#[derive(Clone, Copy)]
-pub struct Claim {
-    pub formula: u16,
-    pub position: u16,
-}
-
-// A record of the body. A run stands over the record's bytes, which are not copied.
+/// A record of the body. A run stands over the record's bytes, which are not copied.
 #[derive(Clone, Copy)]
 pub enum BodyRecord<'a> {
+    /// Kind 1: a formula to be entered.
     FormRecord(Form),
+    /// Kind 4: a line to be held.
     LineRecord(Line),
-    TableRecord(Claim, TableRun<'a>),
-    PulseRecord(Claim, PulseRun<'a>),
+    /// Kind 5: a refutation by a table.
+    TableRecord(Refutation, TableRun<'a>),
+    /// Kind 6: a refutation by pulses.
+    PulseRecord(Refutation, PulseRun<'a>),
 }
 
-// What a record of the body asks for.
+/// What a record of the body asks for. Kinds 2 and 3 and those above 6 are not allowed (23), a form record has 5 bytes and a
+/// line record 8 (24), and a refutation 4 and a run's: these are of a wrong length (24) or give no run (26).
 impl<'a> TryFrom<Record<'a>> for BodyRecord<'a> {
     type Error = PayloadFault;
 
@@ -48,15 +46,13 @@ impl<'a> TryFrom<Record<'a>> for BodyRecord<'a> {
 }
 
 // The numbers of a formula and of a position, in two bytes each.
-impl From<&[u8; 4]> for Claim {
-    ghost from_gives = { λ bytes claim. claim ≡ claim_in bytes.now };
-
-    fn from(bytes: &[u8; 4]) -> Claim {
-        let [formula_low, formula_high, position_low, position_high] = *bytes;
-        Claim {
-            formula: u16::from_le_bytes([formula_low, formula_high]),
-            position: u16::from_le_bytes([position_low, position_high]),
-        }
+fn refutation(bytes: &[u8; 4]) -> Refutation
+    ensures { result ≡ refutation_in bytes.now }
+{
+    let [formula_low, formula_high, position_low, position_high] = *bytes;
+    Refutation {
+        formula: u16::from_le_bytes([formula_low, formula_high]),
+        position: u16::from_le_bytes([position_low, position_high]),
     }
 }
 
@@ -96,22 +92,22 @@ fn place(field: u16) -> Option<u16>
     }
 }
 
-// A claim, and a run that tells each position's atoms.
+// A formula and a position, and a run that tells each position's atoms.
 fn table_record(payload: &[u8]) -> Result<BodyRecord<'_>, PayloadFault>
     ensures { requested result ≡ refute_in table_check table_run payload.now }
 {
-    let (claim, run) = payload
+    let (numbers, run) = payload
         .split_first_chunk()
         .ok_or(PayloadFault::WrongLength)?;
-    Ok(BodyRecord::TableRecord(Claim::from(claim), TableRun::try_from(run)?))
+    Ok(BodyRecord::TableRecord(refutation(numbers), TableRun::try_from(run)?))
 }
 
-// A claim, and a run whose atoms come in pulses.
+// A formula and a position, and a run whose atoms come in pulses.
 fn pulse_record(payload: &[u8]) -> Result<BodyRecord<'_>, PayloadFault>
     ensures { requested result ≡ refute_in pulse_check pulse_run payload.now }
 {
-    let (claim, run) = payload
+    let (numbers, run) = payload
         .split_first_chunk()
         .ok_or(PayloadFault::WrongLength)?;
-    Ok(BodyRecord::PulseRecord(Claim::from(claim), PulseRun::try_from(run)?))
+    Ok(BodyRecord::PulseRecord(refutation(numbers), PulseRun::try_from(run)?))
 }

@@ -5,53 +5,67 @@ ghost use Rattle.records.specs.declared.fault.Cause.TheVariants.{Record, Payload
 
 use refusals::Refusal;
 use runs::RunFault;
+use thiserror::Error;
 
-// What is wrong with a record.
-#[derive(Clone, Copy, PartialEq, Eq, Debug)]
+/// What is wrong with a record.
+#[derive(Clone, Copy, PartialEq, Eq, Debug, Error)]
 pub enum RecordFault {
-    // 1 to 3 bytes remain for a head, or the start lies past the end
+    /// 21: one to three bytes are left where the head of a record is due, or the start lies past the end of the file.
+    #[error("there are fewer than four bytes for the head of a record")]
     ShortHead = 21,
-    // the payload passes the end of the file
+    /// 22: the payload passes the end of the file.
+    #[error("the payload passes the end of the file")]
     PayloadCut = 22,
-    // the front ends without a seal record
+    /// 25: the front ends without a seal record.
+    #[error("the front ends without a seal record")]
     NoSeal = 25,
 }
 
-// What is wrong with a payload.
-#[derive(Clone, Copy, PartialEq, Eq, Debug)]
+/// What is wrong with a payload.
+#[derive(Clone, Copy, PartialEq, Eq, Debug, Error)]
 pub enum PayloadFault {
-    // the kind is not allowed in this part of the file
+    /// 23: the kind is not allowed in this part of the file.
+    #[error("a record of this kind is not allowed in this part of the file")]
     KindNotAllowed = 23,
-    // the length is not that kind's
+    /// 24: the length is not that of the kind.
+    #[error("the length is not that of the record's kind")]
     WrongLength = 24,
-    // the payload of a refutation is no run
+    /// 26: the payload of a refutation gives no run.
+    #[error("the bytes give no run")]
     NoRun = 26,
 }
 
-#[derive(Clone, Copy, PartialEq, Eq, Debug)]
+/// Why a file is not read on.
+#[derive(Clone, Copy, PartialEq, Eq, Debug, Error)]
 pub enum Cause {
+    /// Layer 1: a record is wrong, or is missing.
+    #[error("wrong record: {0}")]
     Record(RecordFault),
+    /// Layer 2: what a record holds is wrong.
+    #[error("wrong payload: {0}")]
     Payload(PayloadFault),
-    // what the case refused, whole
+    /// Layer 3: the case refused the call that a record asks for. This is its refusal, whole.
+    #[error("refused by the case: {0}")]
     Case(Refusal),
 }
 
-// A cause, with the offset of the record's head or where one was due.
-#[derive(Clone, Copy, PartialEq, Eq, Debug)]
+/// A cause, and the offset of the record's head, or of where one was due, in bytes from the start of the file.
+#[derive(Clone, Copy, PartialEq, Eq, Debug, Error)]
+#[error("at byte {offset}, {cause}")]
 pub struct Fault {
     pub cause: Cause,
     pub offset: usize,
 }
 
-// An error that becomes a cause, held beside the offset that its fault tells.
+/// An error that becomes a cause, held beside the offset that its fault tells.
 #[derive(Clone, Copy)]
 pub struct ErrorAt<E> {
     pub error: E,
     pub offset: usize,
 }
 
-// An answer about the record at an offset: its error is held beside the offset.
-pub fn at<T, E>(offset: usize, answer: Result<T, E>) -> Result<T, ErrorAt<E>>
+/// An answer about the record at an offset: its error is held beside the offset.
+pub fn with_offset<T, E>(offset: usize, answer: Result<T, E>) -> Result<T, ErrorAt<E>>
     ensures { result ≡ error_at offset answer }
 {
     answer.map_err(|error| ErrorAt { error, offset })
@@ -104,8 +118,7 @@ impl<E: Into<Cause>> From<ErrorAt<E>> for Fault {
 }
 
 impl Fault {
-    // 1 for a record, 2 for a payload, 3 for the case.
-    // By a match: variants that hold values take no explicit numbers.
+    /// The layer: 1 for a record, 2 for a payload, 3 for the case.
     pub fn layer(self) -> u8
         ensures { result ≡ layer_of self.cause }
     {
@@ -116,7 +129,7 @@ impl Fault {
         }
     }
 
-    // The number that a caller is told. By a name, and no `From`, so that a call says which number it is.
+    /// The number that a caller is told: 21, 22 or 25 for a record, 23, 24 or 26 for a payload, the refusal's own for the case.
     pub fn number(self) -> u8
         ensures { result ≡ cause_number self.cause }
     {

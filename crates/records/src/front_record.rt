@@ -8,15 +8,19 @@ use crate::fault::PayloadFault;
 use crate::payload::{Form, RecordKind, form_record};
 use crate::record::Record;
 
-// A record of the front.
+/// A record of the front.
 #[derive(Clone, Copy)]
 pub enum FrontRecord {
+    /// Kind 1: a formula to be entered.
     FormRecord(Form),
+    /// Kind 2: the number of an entered formula that is to be assumed.
     AssumeRecord(u16),
+    /// Kind 3: the front ends.
     SealRecord,
 }
 
-// What a record of the front asks for.
+/// What a record of the front asks for. Other kinds than 1, 2 and 3 are not allowed (23); a form record has 5 bytes, an
+/// assume record 2, a seal record none (24).
 impl TryFrom<Record<'_>> for FrontRecord {
     type Error = PayloadFault;
 

@@ -7,8 +7,8 @@ mod front_record;
 mod payload;
 mod record;
 
-pub use body_record::{BodyRecord, Claim};
-pub use fault::{Cause, ErrorAt, Fault, PayloadFault, RecordFault, at};
+pub use body_record::BodyRecord;
+pub use fault::{Cause, ErrorAt, Fault, PayloadFault, RecordFault, with_offset};
 pub use front_record::FrontRecord;
 pub use payload::Form;
 pub use record::{Record, Records};

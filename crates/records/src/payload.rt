@@ -15,7 +15,7 @@ pub(crate) enum RecordKind {
     Pulses,
 }
 
-// A formula to be entered: its kind and its two fields.
+/// A formula to be entered: its kind and its two fields.
 #[derive(Clone, Copy)]
 pub struct Form {
     pub kind: u8,

@@ -3,12 +3,12 @@ ghost use Rattle.std.specs.Prelude.{◌≡◌, ◌+◌, ◌-◌, length, MatchOp
 ghost use Rattle.std.specs.Iterator.{at_most};
 ghost use Rattle.records.specs.Contents.{content, content_at, IsPlaced, NextGives, NextYields};
 
-use crate::fault::{ErrorAt, RecordFault, at};
+use crate::fault::{ErrorAt, RecordFault, with_offset};
 
 // The length of a record's head.
 const HEAD: usize = 4;
 
-// A record where it stands in a file: the offset of its head, its kind, its payload, and the offset behind it.
+/// A record where it stands in a file: the offset of its head, its kind, its payload, and the offset after it.
 #[derive(Clone, Copy)]
 pub struct Record<'a> {
     pub offset: usize,
@@ -17,7 +17,7 @@ pub struct Record<'a> {
     pub behind: usize,
 }
 
-// The records of a file from an offset on. A fault is the last item: nothing tells where the next head would stand.
+/// The records of a file from an offset on, which may lie past its end. A fault is the last item: nothing tells where the next head would stand.
 #[derive(Drop)]
 pub struct Records<'a> {
     file: &'a [u8],
@@ -25,7 +25,8 @@ pub struct Records<'a> {
 }
 
 impl<'a> Records<'a> {
-    #[tactic(auto, using(crate::proofs::Left::next_yields))]
+    /// The records of a file from an offset on, in bytes.
+    #[tactic(auto, using(crate::proofs::NextItem::next_yields))]
     pub fn new(file: &'a [u8], offset: usize) -> Records<'a>
         ensures file { result.file.now ≡ file.now }
         ensures offset { result.offset ≡ offset }
@@ -43,7 +44,7 @@ impl<'a> Iterator for Records<'a> {
     ghost remaining = { λ s. at_most ((length s.file.now - s.offset) + (s.offset - length s.file.now)) };
 
     fn next(&mut self) -> Option<Self::Item> {
-        let record = at(self.offset, record_at(self.file, self.offset)).transpose()?;
+        let record = with_offset(self.offset, record_at(self.file, self.offset)).transpose()?;
         self.offset = record.map_or(self.file.len(), |found| found.behind);
         Some(record)
     }

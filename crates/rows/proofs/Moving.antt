@@ -12,7 +12,7 @@ module _ (row : List ℕ) (fits : (k : ℕ) → get_or row k 0 < 2 ^ 64) (m n k 
   behind_fits : (j : ℕ) → word_behind row j k < 2 ^ 64
   behind_fits j = cond_both (leb j k) (get_or row (k - j) 0) 0 (λ x. x < 2 ^ 64) (λ _. fits (k - j)) (λ _. omega arith)
 
-  -- what a word behind says
+  -- what a word further below says
   behind_says : (j i : ℕ) → i < 64 → testBit (word_behind row j k) i ≡ (leb j k && bit row (64 * (k - j) + i))
   behind_says j i h =
       elim (cases_lt k j) [

@@ -160,9 +160,9 @@ pub zero_says : (k : ℕ) (f : ℕ → Bool) → ((i : ℕ) → i < 64 → f (64
 zero_says k f none = record { fits = omega arith; at = λ i h. bit_zero i ∙ sym (none i h) }
 
 -- the word k of the row that is true at i alone, if `truth` is
-pub says_place : (truth : Bool) (i k : ℕ) → Says (cond (truth && eqb k (i / 64)) ((1 * 2 ^ (i % 64)) % 2 ^ 64) 0) k (λ j. truth && eqb j i)
-says_place false i k = zero_says k (λ j. false) (λ j h. refl)
-says_place true i k =
+pub says_only_at : (truth : Bool) (i k : ℕ) → Says (cond (truth && eqb k (i / 64)) ((1 * 2 ^ (i % 64)) % 2 ^ 64) 0) k (λ j. truth && eqb j i)
+says_only_at false i k = zero_says k (λ j. false) (λ j h. refl)
+says_only_at true i k =
     ⊎_elim
     (λ (e : k ≡ i / 64).
     subst (λ b. Says (cond b ((1 * 2 ^ (i % 64)) % 2 ^ 64) 0) k (λ j. eqb j i)) (sym (eq-eqb k (i / 64) e))
@@ -185,7 +185,7 @@ top_bit w m j e h l =
     let l' : 2 ^ suc j ≤ 2 * w + 1 = subst (λ x. 2 ^ x ≤ 2 * w + 1) e l in
     bit_top w j (omega (arith, pow-suc 2 j)) h'
 
--- where the word k has a bit and none above it has one, the row ends behind that word's highest
+-- where the word k has a bit and none above it has one, the row ends after that word's highest
 pub ends_in : (row : List ℕ) (k : ℕ) → k < 4 → get_or row k 0 < 2 ^ 64 → 0 < get_or row k 0 → ((j : ℕ) → k < j → get_or row j 0 ≡ 0)
     → Ends row (64 * (k + 1) - count_leading_zeros 64 (get_or row k 0))
 unfolding bit

@@ -2,9 +2,10 @@
 ghost use Rattle.std.specs.Prelude.{◌≡◌, ◌+◌, ◌-◌, ◌<◌, ◌≤◌, ◌==◌, nat_lt};
 ghost use Rattle.rows.specs.Row.{row_of};
 
-use crate::words::{mask, place};
+use crate::words::{mask, only_at};
 use crate::{POSITIONS, Row};
 
+/// A stem and a loop that is not empty, together at most 256 positions.
 // The masks of its rows are made once, with it.
 #[derive(Clone, Copy)]
 pub struct Lasso {
@@ -25,7 +26,7 @@ impl Lasso {
     ghost use Rattle.std.specs.Option.{option_map};
     ghost use Rattle.rows.specs.Shape.{lasso_of, shape};
 
-    // The lasso with this stem and this loop, if the loop is not empty and a row has room for both.
+    /// The lasso with this stem and this loop, in positions, or none if the loop is empty or both have more than 256.
     pub fn new(stem: u16, loop_length: u16) -> Option<Lasso>
         ensures { option_map shape result ≡ lasso_of stem loop_length }
     {
@@ -40,11 +41,11 @@ impl Lasso {
             loop_length,
             all: mask(positions),
             inner: mask(positions - 1),
-            last: place(true, positions - 1),
+            last: only_at(true, positions - 1),
         })
     }
 
-    // The positions up to the loop's end.
+    /// The number of positions up to the loop's end: 1 to 256.
     pub fn positions(self) -> usize
         ensures { result ≡ self.stem + self.loop_length }
     {

@@ -12,21 +12,21 @@ fn ones(n: usize) -> u64
     if n < BITS { (1 << n) - 1 } else { u64::MAX }
 }
 
-// The row that is true at each position below `n`.
+/// The row that is true at each position below `n`.
 pub fn mask(n: usize) -> Row
     ensures { result ≡ row_of (λ i. nat_lt i n) }
 {
     array::from_fn(|index| ones(n.saturating_sub(BITS * index)))
 }
 
-// Where `a` and `b` are true. This and the next two are one call of the library: what differs is its closure.
+/// Where `a` and `b` are true.
 pub fn and(a: Row, b: Row) -> Row
     ensures { result ≡ row_of (λ i. bit a i && bit b i) }
 {
     array::from_fn(|index| a[index] & b[index])
 }
 
-// Where `a` or `b` is true.
+/// Where `a` or `b` is true.
 pub fn or(a: Row, b: Row) -> Row
     ensures { result ≡ row_of (λ i. bit a i || bit b i) }
 {
@@ -41,7 +41,7 @@ pub(crate) fn minus(a: Row, b: Row) -> Row
 }
 
 // The row that is true at one position alone, if `truth` is.
-pub(crate) fn place(truth: bool, position: usize) -> Row
+pub(crate) fn only_at(truth: bool, position: usize) -> Row
     ensures { result ≡ row_of (λ j. truth && j == position) }
 {
     array::from_fn(|index| {
@@ -54,8 +54,6 @@ pub(crate) fn place(truth: bool, position: usize) -> Row
 }
 
 // One past the last position where `row` is true, or 0.
-// A loop: `rposition` gives an index alone, so that the word is read again, which is slower; and of `enumerate().rfind(..)`
-// the proof does not close.
 pub(crate) fn end(row: Row) -> usize
     ensures { Ends row result }
 {
@@ -77,7 +75,7 @@ pub(crate) fn earlier(a: Row) -> Row
     })
 }
 
-// The word of a row so many words below the one at an index, or 0 where there is none.
+// The word of a row that stands `words` below the one at an index, or 0 where there is none.
 fn word_below(a: Row, index: usize, words: usize) -> u64
     requires { index < 4 }
     ensures { result ≡ word_behind a words index }
@@ -85,7 +83,7 @@ fn word_below(a: Row, index: usize, words: usize) -> u64
     if words <= index { a[index - words] } else { 0 }
 }
 
-// The word of a row that is moved up by so many words and bits. Down by one place first, and then by 63 at most.
+// One word of a row that is moved up by `words` words and `bits` bits. Down by one bit first, and then by 63 at most.
 #[tactic(auto, unfolding(crate::specs::Row::word_moved))]
 fn moved_word(a: Row, index: usize, words: usize, bits: usize) -> u64
     requires there { index < 4 }
@@ -97,7 +95,7 @@ fn moved_word(a: Row, index: usize, words: usize, bits: usize) -> u64
     low | high
 }
 
-// Where `a` is true so many positions before.
+/// Where `a` is true `places` positions before.
 pub fn later(a: Row, places: usize) -> Row
     ensures { result ≡ row_of (λ i. nat_le places i && bit a (i - places)) }
 {

@@ -1,5 +1,2 @@
-pub mod Filling
-pub mod Instances
 pub mod ByNumbers
-pub mod Shapes
 pub mod Verdicts

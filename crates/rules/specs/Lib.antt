@@ -1,4 +1,3 @@
 pub mod Questions
 pub mod Matching
 pub mod Rules
-pub mod Shapes

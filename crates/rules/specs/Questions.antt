@@ -1,5 +1,5 @@
 -- What a page answers about formulas by their numbers.
-use Rattle.std.specs.Prelude.{ℕ, Bool, true, cond, ◌&&◌, List, length, Some, None, Option, option_map, nat_lt}
+use Rattle.std.specs.Prelude.{ℕ, Bool, true, ◌&&◌, List, length, Some, None, Option, option_map, nat_lt, if◌then◌else◌}
 use Rattle.logic.specs.Formula.{Formula}
 use Rattle.formulas.specs.Forming.{numbered}
 use Rattle.calculus.specs.declared.verdict.Verdict.{Verdict}
@@ -19,6 +19,5 @@ all_entered fs q = nat_lt q.conclusion (length fs) && (premise_entered fs q.firs
 -- the verdict on their formulas, and not admitted where one is not in the list
 abbrev pub verdict_on : Verdicts → List Formula → Question → Verdict
 verdict_on v fs q =
-    cond (all_entered fs q)
-    (v q.rule (numbered fs q.conclusion) (option_map (numbered fs) q.first) (option_map (numbered fs) q.second))
-    NotAdmitted
+    if all_entered fs q then v q.rule (numbered fs q.conclusion) (option_map (numbered fs) q.first) (option_map (numbered fs) q.second)
+    else NotAdmitted

@@ -1,27 +1,23 @@
 -- What is said of a question by one rule.
-use Rattle.std.specs.Prelude.{Bool, cond, ◌&&◌, List, option_map, is_none}
+use Rattle.std.specs.Prelude.{◌&&◌, List, is_none, if◌then◌else◌}
 use Rattle.logic.specs.Formula.{Formula}
-use Rattle.formulas.specs.Forming.{numbered}
 use Rattle.calculus.specs.declared.verdict.Verdict.{Verdict}
 use Rattle.calculus.specs.declared.verdict.Verdict.TheVariants.{NotAdmitted}
-use Rattle.calculus.specs.Published.{admitted_if}
+use Rattle.calculus.specs.Schemas.{RuleSchema, is_instance, admitted_if}
 use Rattle.tautologies.specs.Verdicts.{taut_verdict_in}
 use Rattle.rules.specs.declared.page.Question.{Question}
-use Rattle.rules.specs.declared.rule.Rule.{Rule}
-use Rattle.rules.specs.Questions.{all_entered}
-use Rattle.rules.specs.Matching.{schema_of, Shape, is_instance}
+use Rattle.rules.specs.declared.schema.Rule.{Rule}
+use Rattle.rules.specs.Questions.{verdict_on}
+use Rattle.rules.specs.Matching.{made_of}
 
--- the shape of a rule of the program
-abbrev pub shape_of : Rule → Shape
-shape_of r = record { conclusion = schema_of r.conclusion; first = option_map schema_of r.first; second = option_map schema_of r.second }
+-- the schema of a rule of the program
+abbrev pub rule_schema : Rule → RuleSchema
+rule_schema r = made_of r.conclusion r.first r.second
 
--- the formulas of a question are an instance of a shape
-abbrev pub is_instance_of : Shape → List Formula → Question → Bool
-is_instance_of h fs q = is_instance h (numbered fs q.conclusion) (option_map (numbered fs) q.first) (option_map (numbered fs) q.second)
-
-abbrev pub instance_verdict : Shape → List Formula → Question → Verdict
-instance_verdict h fs q = cond (all_entered fs q) (admitted_if (is_instance_of h fs q)) NotAdmitted
+-- admitted where the formulas of a question are in the list and an instance of a schema
+abbrev pub instance_verdict : RuleSchema → List Formula → Question → Verdict
+instance_verdict h fs q = verdict_on (λ rule X P Q. admitted_if (is_instance h X P Q)) fs q
 
 -- what is said of it as a tautology: there are to be no premises
 abbrev pub taut_on : List Formula → Question → Verdict
-taut_on fs q = cond (is_none q.first && is_none q.second) (taut_verdict_in fs q.conclusion) NotAdmitted
+taut_on fs q = if is_none q.first && is_none q.second then taut_verdict_in fs q.conclusion else NotAdmitted

@@ -1,12 +1,12 @@
 // The derived page: four rules that are derived in the standard axiom system, over any other page.
-ghost use Rattle.std.specs.Prelude.{◌≡◌, option_map};
-ghost use Rattle.rules.specs.Rules.{shape_of};
-ghost use Rattle.rules.specs.Shapes.{derived_shape};
+ghost use Rattle.std.specs.Prelude.{◌≡◌, nat_eq, option_map};
+ghost use Rattle.std.specs.Map.{lookup};
+ghost use Rattle.calculus.specs.Derived.{derived_schemas};
+ghost use Rattle.rules.specs.Rules.{rule_schema};
 
 use crate::numbers;
 use crate::page::{Question, RulePage};
-use crate::rule::Rule;
-use crate::schema::{A, ALWAYS_A, B, C, FALSE, NEXT_A, NEXT_B, Schema};
+use crate::schema::{A, ALWAYS_A, B, C, FALSE, NEXT_A, NEXT_B, Rule, Schema};
 use calculus::Verdict;
 use formulas::FormulaList;
 
@@ -50,9 +50,10 @@ const CHAIN: Rule = Rule {
     second: Some(Schema::Implies(&B, &EVENTUALLY_C)),
 };
 
-// The rules 16 to 19, and for every other number the page below.
+/// The page of the derived rules 16 to 19 over another page.
 #[derive(Clone, Copy)]
 pub struct DerivedPage<P> {
+    /// The page that answers for every other number.
     pub below: P,
 }
 
@@ -62,7 +63,7 @@ impl<P: RulePage> RulePage for DerivedPage<P> {
 
     ghost meaning = { λ page. record { verdict = derived (P.RulePage.meaning page.below).verdict; lawful = derived_lawful (P.RulePage.meaning page.below) } };
 
-    #[tactic(auto, using(crate::proofs::Verdicts::derived_told, crate::proofs::Verdicts::derived_passed))]
+    #[tactic(auto, using(crate::proofs::Verdicts::derived_passed))]
     fn verdict(&self, formulas: &FormulaList, question: Question) -> Verdict {
         match rule_numbered(question.rule) {
             Some(rule) => rule.verdict(formulas, question),
@@ -73,7 +74,7 @@ impl<P: RulePage> RulePage for DerivedPage<P> {
 
 // The rule with a number.
 fn rule_numbered(number: u16) -> Option<Rule>
-    ensures { option_map shape_of result ≡ derived_shape number }
+    ensures { option_map rule_schema result ≡ lookup (nat_eq number) derived_schemas }
 {
     match number {
         numbers::ALW => Some(ALW),

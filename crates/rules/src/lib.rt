@@ -3,6 +3,7 @@
 
 mod derived;
 mod letters;
+/// The numbers of the axioms, the rules and the derived rules.
 pub mod numbers;
 mod page;
 mod published;

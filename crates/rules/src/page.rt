@@ -7,12 +7,16 @@ ghost use Rattle.rules.specs.Questions.{all_entered, premise_entered, verdict_on
 use calculus::Verdict;
 use formulas::FormulaList;
 
-// Whether a rule, by its number, gives a conclusion from premises, which may be empty. All are formulas, by number.
+/// What a page is asked: whether a rule gives a conclusion from premises.
 #[derive(Clone, Copy)]
 pub struct Question {
+    /// The number of the rule; [`crate::numbers`] has those of the pages here.
     pub rule: u16,
+    /// The number of a formula in the list.
     pub conclusion: u16,
+    /// The number of a formula in the list, or none where there is no first premise.
     pub first: Option<u16>,
+    /// The number of a formula in the list, or none where there is no second premise.
     pub second: Option<u16>,
 }
 
@@ -34,11 +38,13 @@ fn is_premise(number: Option<u16>, formulas: &FormulaList) -> bool
     number.is_none_or(|number| usize::from(number) < formulas.len())
 }
 
-// A page has one fixed verdict for each question about formulas, whatever their numbers are. Whatever it admits holds
-// throughout every looped run on which the premises do. About a number that is not in the list it says not admitted.
+/// A page of rules has one fixed verdict for each rule, conclusion and premises, whatever the numbers of these formulas
+/// are. What it admits holds throughout every looped run on which its premises do; the meaning has the proof.
 pub trait RulePage {
     ghost meaning: { Self → Page };
 
+    /// Answers the page's verdict on the formulas with these numbers. Answers [`Verdict::NotAdmitted`] where one of them
+    /// is not in the list.
     fn verdict(&self, formulas: &FormulaList, question: Question) -> Verdict
         ensures { result ≡ verdict_on (meaning self.now).verdict (formulas_of formulas.now) question };
 }

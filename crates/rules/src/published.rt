@@ -1,13 +1,13 @@
 // The published page: the axioms and rules of the standard axiom system.
-ghost use Rattle.std.specs.Prelude.{◌≡◌, option_map};
+ghost use Rattle.std.specs.Prelude.{◌≡◌, nat_eq, option_map};
 ghost use Rattle.formulas.specs.Listed.{formulas_of};
-ghost use Rattle.rules.specs.Rules.{shape_of, taut_on};
-ghost use Rattle.rules.specs.Shapes.{published_shape};
+ghost use Rattle.std.specs.Map.{lookup};
+ghost use Rattle.calculus.specs.Published.{published_schemas};
+ghost use Rattle.rules.specs.Rules.{rule_schema, taut_on};
 
 use crate::numbers;
 use crate::page::{Question, RulePage};
-use crate::rule::Rule;
-use crate::schema::{A, ALWAYS_A, B, FALSE, NEXT_A, NEXT_B, Schema};
+use crate::schema::{A, ALWAYS_A, B, FALSE, NEXT_A, NEXT_B, Rule, Schema};
 use calculus::Verdict;
 use formulas::FormulaList;
 use tautologies::taut_verdict;
@@ -84,7 +84,8 @@ const IND: Rule = Rule {
     second: Some(Schema::Implies(&A, &NEXT_A)),
 };
 
-// The rules 1 to 7. The page has nothing to keep.
+/// The page of the axioms and rules 1 to 7. It admits a formula as a tautology if it has at most twelve prime parts, and
+/// is beyond its limit where it has more. It holds no data.
 #[derive(Clone, Copy)]
 pub struct PublishedPage;
 
@@ -117,7 +118,7 @@ fn taut(formulas: &FormulaList, question: Question) -> Verdict
 
 // The rule with a number, but for tautologies.
 fn rule_numbered(number: u16) -> Option<Rule>
-    ensures { option_map shape_of result ≡ published_shape number }
+    ensures { option_map rule_schema result ≡ lookup (nat_eq number) published_schemas }
 {
     match number {
         numbers::LTL1 => Some(LTL1),

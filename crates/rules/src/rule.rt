@@ -1,26 +1,19 @@
-// A rule, by the schemas of its conclusion and its premises.
+// Questions by one rule: whether formulas are an instance of it.
 ghost use Rattle.std.specs.Prelude.{◌≡◌, option_map};
 ghost use Rattle.formulas.specs.Listed.{entries_of, formulas_of};
 ghost use Rattle.rules.specs.Matching.{schema_of, premise_matched_in, letters_in};
-ghost use Rattle.rules.specs.Rules.{shape_of, instance_verdict};
+ghost use Rattle.rules.specs.Rules.{rule_schema, instance_verdict};
 
 use crate::letters::{LETTERS, Letters};
 use crate::page::Question;
-use crate::schema::{Schema, matched};
+use crate::schema::{Rule, Schema, matched};
 use calculus::Verdict;
 use formulas::FormulaList;
-
-#[derive(Clone, Copy)]
-pub(crate) struct Rule {
-    pub conclusion: Schema<'static>,
-    pub first: Option<Schema<'static>>,
-    pub second: Option<Schema<'static>>,
-}
 
 impl Rule {
     // Whether the formulas of a question are an instance of the rule.
     pub(crate) fn verdict(&self, formulas: &FormulaList, question: Question) -> Verdict
-        ensures { result ≡ instance_verdict (shape_of self.now) (formulas_of formulas.now) question }
+        ensures { result ≡ instance_verdict (rule_schema self.now) (formulas_of formulas.now) question }
     {
         if question.is_entered(formulas) && self.letters(formulas, question).is_some() {
             Verdict::Admitted
@@ -31,7 +24,7 @@ impl Rule {
 
     // What stands for the letters, if they are an instance.
     fn letters(&self, formulas: &FormulaList, question: Question) -> Option<Letters>
-        ensures { result ≡ letters_in (entries_of formulas.now) (shape_of self.now) question.conclusion question.first question.second }
+        ensures { result ≡ letters_in LETTERS (entries_of formulas.now) (rule_schema self.now) question.conclusion question.first question.second }
     {
         let of_conclusion = matched(
             &self.conclusion,

@@ -1,9 +1,10 @@
 // Schemas of formulas, with letters in the places of formulas.
-ghost use Rattle.std.specs.Prelude.{◌≡◌};
+ghost use Rattle.std.specs.Prelude.{◌≡◌, true};
 ghost use Rattle.formulas.specs.Listed.{entries_of};
-ghost use Rattle.rules.specs.Matching.{schema_of, matched_in};
+ghost use Rattle.rules.specs.declared.letters.TheConstants.{LETTERS};
+ghost use Rattle.rules.specs.Matching.{schema_of, made_of, has_room, matched_in};
 
-use crate::letters::{Letters, with_letter};
+use crate::letters::{LETTERS, Letters, with_letter};
 use formulas::{Entry, FormulaList};
 
 // Small trees that are written down in the program, so that references to their parts are enough.
@@ -14,6 +15,15 @@ pub(crate) enum Schema<'a> {
     Implies(&'a Schema<'a>, &'a Schema<'a>),
     Next(&'a Schema<'a>),
     Always(&'a Schema<'a>),
+}
+
+// A rule, by its conclusion and its premises. There is room for its letters.
+#[derive(Clone, Copy)]
+pub(crate) struct Rule {
+    pub conclusion: Schema<'static>,
+    pub first: Option<Schema<'static>>,
+    pub second: Option<Schema<'static>>,
+    ghost room: { has_room LETTERS (made_of conclusion first second) ≡ true },
 }
 
 // False, the letters, and what several rules are made of.

@@ -1,10 +1,7 @@
-pub mod Told
-pub mod Passing
+pub mod SourceSays
+pub mod Checks
 pub mod Pulsing
-pub mod Along
 pub mod Given
-pub mod Ruled
-pub mod Chunks
 pub mod Arrays
 pub mod Finding
 mod Doubling

@@ -21,7 +21,7 @@ TablesAsGiven bytes =
     × (Bytes bytes → (a i : ℕ) → a ≤ 31 → i < table_stem bytes + table_loop bytes → ((table_run bytes).says a i ≡ true) ↔ (table_bit bytes a i ≡ 1))
 
 -- the loop is the first number; the stem is at least the first position of every pulse, and is one of them, or 0; at
--- every position, behind the loop's end too, an atom is true exactly when a pulse of it has begun and is within its width
+-- every position, after the loop's end too, an atom is true exactly when a pulse of it has begun and is within its width
 -- since the last start of its period
 abbrev pub PulsesAllAlong : List ℕ → Type 0
 PulsesAllAlong bytes =

@@ -1,7 +1,7 @@
 pub mod Bytes
 pub mod Fields
 pub mod Looping
-pub mod Telling
+pub mod SourceSays
 pub mod Tables
 pub mod Pulses
 pub mod Meanings

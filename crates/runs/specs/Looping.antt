@@ -1,4 +1,4 @@
--- Runs that go on behind their loop as they do in it.
+-- Runs that go on after their loop as they do in it.
 use Rattle.std.specs.Prelude.{◌≡◌, ℕ, suc, ◌+◌, ◌-◌, ◌%◌, ◌≤◌, Bool, false, cond, Ok, Err, Result, nat_lt}
 use Rattle.std.proofs.Common.{ap, sym, ◌∙◌, arith}
 use Rattle.std.proofs.Math.Nat.{add-mod_right}

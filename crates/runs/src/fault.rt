@@ -1,8 +1,13 @@
 // Why bytes give no run.
-#[derive(Clone, Copy, PartialEq, Eq, Debug)]
+use thiserror::Error;
+
+/// Why bytes give no run.
+#[derive(Clone, Copy, PartialEq, Eq, Debug, Error)]
 pub enum RunFault {
-    // the length is not that of a run of this kind
+    /// The length is not that of a run of this kind.
+    #[error("the bytes are too many or too few for a run of this kind")]
     WrongLength,
-    // no run has these numbers
+    /// No run of this kind has these numbers.
+    #[error("no run of this kind has these numbers")]
     NoRun,
 }

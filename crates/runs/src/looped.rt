@@ -8,10 +8,10 @@ use rows::{EMPTY, POSITIONS, Row, put};
 use std::alloc::AllocError;
 use std::cmp::min;
 
-// How many atoms there are.
+// The number of atoms.
 pub(crate) const ATOMS: u16 = 32;
 
-// What says which atoms are true at which positions. No other crate can name it.
+/// What says which atoms are true at which positions up to a loop's end.
 pub trait Positions {
     // Whether a run may have a loop of this length.
     ghost fits: { ℕ → Self → Bool };
@@ -19,21 +19,20 @@ pub trait Positions {
     // The truth of an atom at a position.
     ghost truths: { Self → ℕ → ℕ → Bool };
 
-    // `Looped::says` asks of the positions up to the loop's end alone.
+    /// Whether an atom, 0 to 31, is true at a position.
     fn is_true(&self, atom: u8, position: usize) -> bool
         requires atom { atom < 32 }
         requires fits { (loop : ℕ) × (fits loop self.now ≡ true) }
         ensures { result ≡ truths self.now atom position };
 
-    // The truths of an atom in a row, up to a position. One by one, where there is no faster way.
+    /// The truths of an atom in a row, up to a position. One by one, where there is no faster way.
     fn row(&self, atom: u8, end: usize) -> Row
         requires atom { atom < 32 }
         requires fits { (loop : ℕ) × (fits loop self.now ≡ true) }
         ensures { result ≡ row_up_to end (truths self.now atom) }
     {
         let mut row = EMPTY;
-        // No fold: a closure that calls a bound needs clauses of its own, longer than this loop.
-        // And a name for each longer row: the check proves no call that is laid into the row that it reads.
+        // A name for each longer row: the check proves no call whose result replaces the row that it reads.
         for position in 0..min(end, POSITIONS) {
             let more = put(row, position, self.is_true(atom, position));
             row = more;
@@ -42,7 +41,7 @@ pub trait Positions {
     }
 }
 
-// A run that is read off the positions up to its loop's end.
+/// A run that is read off the positions up to its loop's end.
 pub struct Looped<P: Positions> {
     pub(crate) stem: u16,
     pub(crate) loop_length: u16,
@@ -91,7 +90,7 @@ impl<P: Positions> RunSource for Looped<P> {
         self.loop_length
     }
 
-    #[tactic(auto, using(crate::proofs::Told::told_tested, std::proofs::lemmas::Bool::Decides::nat_tests))]
+    #[tactic(auto, using(crate::proofs::SourceSays::source_says_tested, std::proofs::lemmas::Bool::Decides::nat_tests))]
     fn says(&self, atom: u8, position: usize) -> bool {
         u16::from(atom) < ATOMS
             && position < usize::from(self.stem) + usize::from(self.loop_length)

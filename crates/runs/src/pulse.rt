@@ -1,7 +1,7 @@
 // One atom's pulse.
 ghost use Rattle.std.specs.Prelude.{◌≡◌, ◌<◌};
 ghost use Rattle.rows.specs.Row.{row_of};
-ghost use Rattle.runs.specs.Pulses.{pulse_at, on, allowed};
+ghost use Rattle.runs.specs.Pulses.{pulse_of, on, allowed};
 
 use crate::looped::ATOMS;
 use rows::{POSITIONS, Row, and, later, mask, or};
@@ -16,7 +16,7 @@ pub(crate) struct Pulse {
 }
 
 impl From<&[u8; 8]> for Pulse {
-    ghost from_gives = { λ bytes pulse. pulse ≡ pulse_at bytes.now 0 };
+    ghost from_gives = { λ bytes pulse. pulse ≡ pulse_of bytes.now };
 
     fn from(bytes: &[u8; 8]) -> Pulse {
         let [

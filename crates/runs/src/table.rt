@@ -7,22 +7,26 @@ ghost use Rattle.runs.specs.Tables.{table_check, table_given, table_run, words_s
 use crate::fault::RunFault;
 use crate::looped::{Looped, Positions};
 
-// A word for each position up to the loop's end, or none at all.
+/// A word for each position up to the loop's end, or none at all.
 #[derive(Clone, Copy)]
 pub struct Words<'a>(&'a [[u8; 4]]);
 
+/// A run from bytes: its stem and its loop in two bytes each, the low byte first, then four bytes for each position up to the
+/// loop's end, whose bit a, counted from the lowest of the first byte, is the truth of atom a.
 pub type TableRun<'a> = Looped<Words<'a>>;
 
-// A check and a constructor for each kind of run: public calls whose clauses stay, and each names its kind's definitions.
 impl<'a> TableRun<'a> {
-    // Whether bytes give a table run.
+    /// Whether bytes give a table run, or else what is wrong: `WrongLength` where they are not as long as their stem and
+    /// their loop ask for, `NoRun` where the loop is 0.
     pub fn check(bytes: &[u8]) -> Result<(), RunFault>
         ensures { result ≡ table_check bytes.now }
     {
         TableRun::try_from(bytes).map(|_| ())
     }
 
-    // The run that the bytes give; its words stay where they are.
+    /// The run that the bytes give; its words stay where they are. Bytes that give none give the run with stem 0 and
+    /// loop 1 on which no atom is true.
+    #[tactic(auto, using(crate::proofs::Given::tables_as_given, crate::proofs::Checks::table_silent))]
     pub fn new(bytes: &'a [u8]) -> TableRun<'a>
         ensures run { table_meaning result ≡ table_run bytes.now }
         ensures given { TablesAsGiven bytes.now }

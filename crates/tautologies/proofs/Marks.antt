@@ -104,7 +104,7 @@ module _ (es : List Entry) (entered : Entered es) where
   -- ---- how many parts there are
 
   -- different entries have different formulas
-  distinct_formulas : (parts : List ℕ) → ((k n : ℕ) → slice_get parts k ≡ Some n → n < length es) → Distinct parts → Distinct (formulas_at es parts)
+  pub distinct_formulas : (parts : List ℕ) → ((k n : ℕ) → slice_get parts k ≡ Some n → n < length es) → Distinct parts → Distinct (formulas_at es parts)
   distinct_formulas parts within once i j before there same =
       let one = nth_there (formulas_at es parts) i (omega arith) in
       let other = nth_there (formulas_at es parts) j there in

@@ -1,36 +1,24 @@
 -- How a plan grows, entry by entry.
-use Rattle.std.proofs.Common.{◌≡◌, ℕ, ◌+◌, ◌<◌, ◌≤◌, List, [], ◌∷◌, ◌++◌, length, get_or, set, ltb, Bool, true, Some, sym, ap, ap₂, ◌∙◌, subst, inl, inr, arith, get_or-set_other, get_or-set_same, length-set}
+use Rattle.std.proofs.Common.{◌≡◌, ℕ, ◌+◌, ◌<◌, ◌≤◌, List, [], ◌∷◌, ◌++◌, length, get_or, set, Bool, Some, sym, ap, ap₂, ◌∙◌, subst, inl, inr, arith, get_or-set_other, get_or-set_same, length-set}
 use Rattle.std.specs.List.{slice_get}
-use Rattle.std.proofs.lemmas.Bool.{cases_eq, and_parts, ltb-true}
+use Rattle.std.proofs.lemmas.Bool.{cases_eq}
 use Rattle.std.proofs.lemmas.List.{length_push}
 use Rattle.formulas.specs.declared.entry.Entry.{Entry}
 use Rattle.formulas.specs.declared.entry.Entry.TheVariants.{False, Implies}
-use Rattle.formulas.specs.Entries.{placed}
 use Rattle.lists.proofs.Members.{some_not_none, nth_within, nth_append_left, nth_push, nth_pushed}
 use Rattle.tautologies.specs.declared.step.Step.{Step}
 use Rattle.tautologies.specs.Gathering.{Entered, Gathered, Marked}
-use Rattle.tautologies.proofs.Marks.{formula_is}
-use Rattle.tautologies.specs.Planning.{place_of, LowerSteps, Planned}
+use Rattle.tautologies.proofs.Marks.{formula_is, lower_operands}
+use Rattle.tautologies.specs.Planning.{place_of, PlannedBelow}
 
 -- entry n is no implication
 abbrev pub Simple : List Entry → ℕ → Type 0
 Simple es n = (a b : ℕ) → get_or es n False ≡ Implies a b → ⊥
 
--- the plan has the steps of the marked implications below a number
-pub record Going (es : List Entry) (seen : List Bool) (parts : List ℕ) (places : List ℕ) (steps : List Step) (number : ℕ) : Type 0 where
-  pub long : length places ≡ 1024
-  pub few : length steps ≤ number
-  pub lower : LowerSteps steps
-  pub within : (n : ℕ) → Marked seen n → place_of places n < 13 + length steps
-  pub part_at : (k n : ℕ) → slice_get parts k ≡ Some n → Simple es n → place_of places n ≡ k
-  pub false_at : (n : ℕ) → Marked seen n → get_or es n False ≡ False → place_of places n ≡ 12
-  pub step_at : (n a b : ℕ) → n < number → Marked seen n → get_or es n False ≡ Implies a b
-      → (j : ℕ) × (place_of places n ≡ 13 + j) × (slice_get steps j ≡ Some (record { left = place_of places a; right = place_of places b }))
-
 module _ (es : List Entry) (entered : Entered es) (seen : List Bool) (parts : List ℕ) (g : Gathered es seen parts) (places : List ℕ) (steps : List Step) where
   -- at first there are no steps, and the places are those of the parts, or that of false
   pub started : steps ≡ [] → length places ≡ 1024 → ((k n : ℕ) → slice_get parts k ≡ Some n → place_of places n ≡ k)
-      → ((n : ℕ) → ((k : ℕ) → slice_get parts k ≡ Some n → ⊥) → place_of places n ≡ 12) → ((n : ℕ) → place_of places n ≤ 12) → Going es seen parts places steps 0
+      → ((n : ℕ) → ((k : ℕ) → slice_get parts k ≡ Some n → ⊥) → place_of places n ≡ 12) → ((n : ℕ) → place_of places n ≤ 12) → PlannedBelow es seen parts 0 steps places
   started none long its others small = record {
     long = long;
     few = omega (arith, ap (length {A = Step}) none);
@@ -42,7 +30,7 @@ module _ (es : List Entry) (entered : Entered es) (seen : List Bool) (parts : Li
   }
 
   -- an entry without a step adds nothing
-  pub passed : (n : ℕ) → (Marked seen n → Simple es n) → Going es seen parts places steps n → Going es seen parts places steps (n + 1)
+  pub passed : (n : ℕ) → (Marked seen n → Simple es n) → PlannedBelow es seen parts n steps places → PlannedBelow es seen parts (n + 1) steps places
   passed n simple so = record {
     long = so.long;
     few = omega (arith, so.few);
@@ -57,23 +45,11 @@ module _ (es : List Entry) (entered : Entered es) (seen : List Bool) (parts : Li
   }
 
   -- the same, of a plan that is equal
-  pub same : (n : ℕ) → (qs : List ℕ) (ts : List Step) → qs ≡ places → ts ≡ steps → Going es seen parts places steps n → Going es seen parts qs ts n
-  same n qs ts p s so = subst (λ (xs : List ℕ). Going es seen parts xs ts n) (sym p) (subst (λ (ys : List Step). Going es seen parts places ys n) (sym s) so)
-
-  -- all entries passed are a plan
-  pub whole : (n : ℕ) → length es ≤ n → n ≤ 1024 → Going es seen parts places steps n → Planned es seen parts steps places
-  whole n all few so = record {
-    long = so.long;
-    few = omega (arith, so.few);
-    lower = so.lower;
-    within = so.within;
-    part_at = so.part_at;
-    false_at = so.false_at;
-    step_at = λ m a b marked is. so.step_at m a b (omega (arith, g.entered m marked)) marked is;
-  }
+  pub same : (n : ℕ) → (qs : List ℕ) (ts : List Step) → qs ≡ places → ts ≡ steps → PlannedBelow es seen parts n steps places → PlannedBelow es seen parts n ts qs
+  same n qs ts p s so = subst (λ (xs : List ℕ). PlannedBelow es seen parts n ts xs) (sym p) (subst (λ (ys : List Step). PlannedBelow es seen parts n ys places) (sym s) so)
 
   -- an implication adds its step
-  module _ (n a b : ℕ) (marked : Marked seen n) (is : get_or es n False ≡ Implies a b) (so : Going es seen parts places steps n) where
+  module _ (n a b : ℕ) (marked : Marked seen n) (is : get_or es n False ≡ Implies a b) (so : PlannedBelow es seen parts n steps places) where
     abbrev own : Step
     own = record { left = place_of places a; right = place_of places b }
 
@@ -82,11 +58,6 @@ module _ (es : List Entry) (entered : Entered es) (seen : List Bool) (parts : Li
 
     abbrev more : List ℕ
     more = set places n at
-
-    operands : (c d m : ℕ) → m < length es → get_or es m False ≡ Implies c d → (c < m) × (d < m)
-    operands c d m h it =
-        let both = and_parts (ltb c m) (ltb d m) (subst (λ (e : Entry). placed m e ≡ true) it (entered.lower m h)) in
-        (ltb-true c m both.0, ltb-true d m both.1)
 
     there : n < length es
     there = g.entered n marked
@@ -104,9 +75,9 @@ module _ (es : List Entry) (entered : Entered es) (seen : List Bool) (parts : Li
     step_same : (c d : ℕ) → c < n → d < n → ◌≡◌ {A = Step} (record { left = place_of places c; right = place_of places d }) (record { left = place_of more c; right = place_of more d })
     step_same c d lc ld = λ i. record { left = sym (other c (λ e. omega arith)) i; right = sym (other d (λ e. omega arith)) i }
 
-    pub added : Going es seen parts more (steps ++ own ∷ []) (n + 1)
+    pub added : PlannedBelow es seen parts (n + 1) (steps ++ own ∷ []) more
     added =
-        let low = operands a b n there is in
+        let low = lower_operands es entered n a b there is in
         let both = g.closed n a b marked is in
         let long : length (steps ++ own ∷ []) ≡ length steps + 1 = length_push steps own in
         record {
@@ -135,7 +106,7 @@ module _ (es : List Entry) (entered : Entered es) (seen : List Bool) (parts : Li
                 )
             | inr ne ↦
                 let (j, placed_at, has) = so.step_at m c d (omega (arith, ne)) mm it in
-                let its = operands c d m (g.entered m mm) it in (
+                let its = lower_operands es entered m c d (g.entered m mm) it in (
                   j,
                   other m ne ∙ placed_at,
                   nth_append_left steps (own ∷ []) j (nth_within steps j has) ∙ has ∙ ap Some (step_same c d (omega (arith, its, before)) (omega (arith, its, before))),

@@ -1,8 +1,8 @@
 -- What a plan's truths under a choice say of the formulas of marked entries.
-use Rattle.std.proofs.Common.{◌≡◌, ℕ, zero, suc, ◌+◌, ◌^◌, ◌<◌, ◌≤◌, Bool, true, false, ltb, not, ◌||◌, ◌↔◌, IsTrue, List, length, get_or, Some, sym, refl, ap, ap₂, ◌∙◌, subst, arith}
+use Rattle.std.proofs.Common.{◌≡◌, ℕ, zero, suc, ◌+◌, ◌^◌, ◌<◌, ◌≤◌, Bool, true, false, not, ◌||◌, ◌↔◌, IsTrue, List, length, get_or, Some, sym, refl, ap, ap₂, ◌∙◌, subst, arith}
 use Rattle.std.specs.Prelude.{MatchBool}
 use Rattle.std.specs.List.{slice_get}
-use Rattle.std.proofs.lemmas.Bool.{and_parts, ltb-true, both_ways, false≢true}
+use Rattle.std.proofs.lemmas.Bool.{both_ways, false≢true}
 use Rattle.std.proofs.Math.Bool.{or_comm}
 use Rattle.std.proofs.lemmas.List.{length-map}
 use Rattle.std.proofs.lemmas.Option.{slice_get-get_or}
@@ -11,11 +11,10 @@ use Rattle.logic.specs.Same.{same}
 use Rattle.formulas.specs.declared.entry.Entry.{Entry}
 use Rattle.formulas.specs.declared.entry.Entry.TheVariants.{False, Atom, Implies, Next, Always}
 use Rattle.lists.specs.Adding.{Distinct, place}
-use Rattle.formulas.specs.Entries.{placed}
 use Rattle.formulas.specs.Decode.{formula_at}
 use Rattle.formulas.proofs.Decoded.{formula_injective}
 use Rattle.logic.proofs.Same.{same_tells}
-use Rattle.lists.proofs.Members.{nth_within, nth_there, some_same}
+use Rattle.lists.proofs.Members.{nth_within, some_same}
 use Rattle.lists.proofs.Places.{place_only}
 use Rattle.rows.specs.Row.{pack}
 use Rattle.rows.proofs.Bits.{bit_pack, pack_lt}
@@ -26,21 +25,13 @@ use Rattle.tautologies.specs.declared.step.Step.{Step}
 use Rattle.tautologies.specs.Gathering.{Entered, Gathered, Marked, formulas_at}
 use Rattle.tautologies.specs.Planning.{place_of, Planned, Values}
 use Rattle.tautologies.proofs.Chosen.{bit_if, chosen}
-use Rattle.tautologies.proofs.Marks.{member_part, part_member, formula_is}
+use Rattle.tautologies.proofs.Marks.{member_part, formula_is, lower_operands, distinct_formulas}
 use Rattle.tautologies.proofs.Plans.{Simple}
 
 module _ (es : List Entry) (entered : Entered es) (seen : List Bool) (parts : List ℕ) (g : Gathered es seen parts) (few : length parts ≤ 12) where
   -- no formula of a part stands twice
-  distinct_formulas : Distinct (formulas_at es parts)
-  distinct_formulas i j before within e =
-      let there : j < length parts = omega (arith, length-map parts (formula_at es)) in
-      let first = nth_there parts i (omega arith) in
-      let second = nth_there parts j there in
-      let alike : formula_at es first.0 ≡ formula_at es second.0 =
-      some_same (sym (part_member es parts i first.0 first.1) ∙ e ∙ part_member es parts j second.0 second.1) in
-      let one : first.0 ≡ second.0 =
-      formula_injective es entered.lower entered.distinct first.0 second.0 (g.entered first.0 (g.met i first.0 first.1).0) (g.entered second.0 (g.met j second.0 second.1).0) alike in
-      g.once i j before there (first.1 ∙ ap Some one ∙ sym second.1)
+  formulas_once : Distinct (formulas_at es parts)
+  formulas_once = distinct_formulas es entered parts (λ k n is. g.entered n (g.met k n is).0) g.once
 
   -- a formula that is true under each numbered choice is a tautology
   every_choice : (n : ℕ) → Marked seen n → ((v : ℕ) → v < 2 ^ length parts → eval (chosen (formulas_at es parts) v) (formula_at es n) ≡ true) → Tautology (formula_at es n)
@@ -52,7 +43,7 @@ module _ (es : List Entry) (entered : Entered es) (seen : List Bool) (parts : Li
       let is = g.gathered n m X p in
       let within = nth_within ps is.0 is.1 in
       let here : get_or ps is.0 falsum ≡ X = some_same (sym (slice_get-get_or ps is.0 falsum within) ∙ is.1) in
-      sym (ap (bit_if v) (place_only same same_tells ps X distinct_formulas is.0 is.1) ∙ bit_pack (length parts) f is.0 (omega (arith, length-map parts (formula_at es))) ∙ ap w here))
+      sym (ap (bit_if v) (place_only same same_tells ps X formulas_once is.0 is.1) ∙ bit_pack (length parts) f is.0 (omega (arith, length-map parts (formula_at es))) ∙ ap w here))
       ∙ numbered v (pack_lt (length parts) f)
 
   module _ (steps : List Step) (places : List ℕ) (plan : Planned es seen parts steps places) where
@@ -69,7 +60,7 @@ module _ (es : List Entry) (entered : Entered es) (seen : List Bool) (parts : Li
           let one : part.0 ≡ n =
           formula_injective es entered.lower entered.distinct part.0 n (g.entered part.0 (g.met has.0 part.0 part.1).0) (g.entered n m) (part.2 ∙ sym is) in
           let at : slice_get parts has.0 ≡ Some n = subst (λ (k : ℕ). slice_get parts has.0 ≡ Some k) one part.1 in
-          let stands_at : place same ps A ≡ Some has.0 = place_only same same_tells ps A distinct_formulas has.0 has.1 in
+          let stands_at : place same ps A ≡ Some has.0 = place_only same same_tells ps A formulas_once has.0 has.1 in
           ap f (plan.part_at has.0 n at simple)
           ∙ values.part has.0 (omega (arith, nth_within parts has.0 at))
           ∙ sym (stands (chosen ps c) ∙ ap (bit_if c) stands_at)
@@ -81,11 +72,11 @@ module _ (es : List Entry) (entered : Entered es) (seen : List Bool) (parts : Li
       told_by n m before (Atom a) is =
           part_told n m (λ x y e. let wrong : ◌≡◌ {A = Entry} (Atom a) (Implies x y) = sym is ∙ e in cc) (atom a) (formula_is es entered n (g.entered n m) (Atom a) is) refl (λ w. refl)
       told_by n m before (Implies a b) is =
-          let (j, at, has) = plan.step_at n a b m is in
+          let (j, at, has) = plan.step_at n a b (g.entered n m) m is in
           let both = g.closed n a b m is in
-          let lower = and_parts (ltb a n) (ltb b n) (subst (λ (e : Entry). placed n e ≡ true) is (entered.lower n (g.entered n m))) in
-          let left = before a (ltb-true a n lower.0) both.0 in
-          let right = before b (ltb-true b n lower.1) both.1 in
+          let lower = lower_operands es entered n a b (g.entered n m) is in
+          let left = before a lower.0 both.0 in
+          let right = before b lower.1 both.1 in
           ap f at ∙ values.step j (record { left = place_of places a; right = place_of places b }) has
           ∙ ap₂ (λ x y. x || not y) right left
           ∙ or_comm (says b) (not (says a))

@@ -4,6 +4,8 @@ use Rattle.std.specs.List.{slice_get}
 use Rattle.logic.specs.Formula.{Formula, falsum}
 use Rattle.formulas.specs.declared.entry.Entry.{Entry}
 use Rattle.formulas.specs.declared.entry.Entry.TheVariants.{False, Atom, Implies, Next, Always}
+use Rattle.tautologies.specs.declared.TheConstants.{ENTRIES}
+use Rattle.tautologies.specs.declared.gathering.TheConstants.{PARTS}
 use Rattle.lists.specs.Adding.{Distinct, Member}
 use Rattle.formulas.specs.Entries.{Lower}
 use Rattle.formulas.specs.Decode.{formula_at}
@@ -11,7 +13,7 @@ use Rattle.calculus.specs.PrimeParts.{PrimePart, prime_parts}
 
 -- the entries of a formula list
 pub record Entered (es : List Entry) : Type 0 where
-  pub within : length es ≤ 1024
+  pub within : length es ≤ ENTRIES
   pub distinct : Distinct es
   pub lower : Lower es
 
@@ -54,7 +56,7 @@ pub record GoneThrough (es : List Entry) (a b : ℕ) (seen : List Bool) (parts :
 -- a formula that has their prime parts has more than are taken
 abbrev pub TooManyParts : List Entry → ℕ → ℕ → List Bool → List ℕ → Type 0
 TooManyParts es a b seen parts =
-    (root : ℕ) (waits : ℕ → Bool) → Going es root waits seen parts → Below es root a → Below es root b → 12 < length (prime_parts (formula_at es root))
+    (root : ℕ) (waits : ℕ → Bool) → Going es root waits seen parts → Below es root a → Below es root b → PARTS < length (prime_parts (formula_at es root))
 
 -- marked entries have their prime parts among the parts, and their operands are marked; a part is marked, is not false, and stands once
 pub record Gathered (es : List Entry) (seen : List Bool) (parts : List ℕ) : Type 0 where

@@ -2,6 +2,8 @@
 ghost use Rattle.std.specs.Prelude.{◌≡◌, ◌<◌};
 ghost use Rattle.tautologies.specs.Choosing.{choice_word_of};
 
+use crate::gathering::PARTS;
+
 // Within a word, the places of the numbers that have bit 0, and so on.
 const WITHIN_WORDS: [u64; 6] = [
     0xAAAA_AAAA_AAAA_AAAA,
@@ -14,7 +16,7 @@ const WITHIN_WORDS: [u64; 6] = [
 
 // Bit `part` of each of the 64 numbers from 64 * word on.
 pub(crate) fn choice_word(word: usize, part: usize) -> u64
-    requires { part < 12 }
+    requires { part < PARTS }
     ensures { result ≡ choice_word_of word part }
 {
     if part < WITHIN_WORDS.len() {

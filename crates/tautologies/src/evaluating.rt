@@ -15,14 +15,14 @@ use crate::step::Step;
 use formulas::Entry;
 use std::array;
 
-// A row has so many words in a pass: with fewer, a step often waits for the row that the one before it wrote, and with more, rows
+// The words of a row in a pass. With fewer, a step often waits for the row that the one before it wrote, and with more, rows
 // are far apart in memory.
 const WORDS: usize = 16;
 
 // The row of one formula under the choices of a pass.
 type Wide = [u64; WORDS];
 
-// A pass has all choices for so many parts.
+// A pass has all choices for this many parts.
 const PASS_PARTS: usize = 10;
 
 // Rows for a formula of few steps, of some, of many, and for any.
@@ -44,7 +44,7 @@ pub(crate) fn true_everywhere(
     requires entered { Entered entries.now }
     requires gathered { Gathered entries.now seen.now parts.now }
     requires marked { Marked seen.now number }
-    requires few { length parts.now ≤ 12 }
+    requires few { length parts.now ≤ PARTS }
     ensures { IsTrue result ↔ Tautology (formula_at entries.now number) }
 {
     let plan = make_plan(entries, seen, parts);
@@ -62,13 +62,13 @@ pub(crate) fn true_everywhere(
     }
 }
 
-// Whether the row at a place is full under all choices for so many parts.
+// Whether the row at a place is full under all choices for a number of parts.
 fn is_true_at<const ROWS: usize>(steps: &[Step], place: usize, parts: usize) -> bool
     requires enough { ROWS ≤ 2048 }
-    requires room { 13 + length steps.now ≤ ROWS }
+    requires room { FIRST_STEP + length steps.now ≤ ROWS }
     requires lower { LowerSteps steps.now }
-    requires there { place < 13 + length steps.now }
-    requires few { parts ≤ 12 }
+    requires there { place < FIRST_STEP + length steps.now }
+    requires few { parts ≤ PARTS }
     ensures { MatchBool result
         ((c : ℕ) → c < 2 ^ parts → (f : ℕ → Bool) × Values steps.now c f × (f place ≡ true))
         ((c : ℕ) × (f : ℕ → Bool) × Values steps.now c f × (f place ≡ false)) }
@@ -84,9 +84,9 @@ fn is_true_at<const ROWS: usize>(steps: &[Step], place: usize, parts: usize) -> 
     true
 }
 
-// How many passes have all choices for so many parts.
+// How many passes have all choices for a number of parts.
 fn passes(parts: usize) -> usize
-    requires { parts ≤ 12 }
+    requires { parts ≤ PARTS }
     ensures few { result ≤ 4 }
     ensures all { 2 ^ parts ≤ 1024 * result }
 {
@@ -99,10 +99,10 @@ fn passes(parts: usize) -> usize
 
 // Writes the rows of the parts, from a word of choices on.
 fn choose<const ROWS: usize>(first: usize, rows: &mut [Wide; ROWS])
-    requires room { 13 ≤ ROWS }
-    requires within { first + 16 ≤ 1024 }
-    ensures parts { (k w : ℕ) → k < 12 → w < 16 → word_at rows.new k w ≡ choice_word_of (first + w) k }
-    ensures others { (p w : ℕ) → 12 ≤ p → word_at rows.new p w ≡ word_at rows.old p w }
+    requires room { FIRST_STEP ≤ ROWS }
+    requires within { first + WORDS ≤ 1024 }
+    ensures parts { (k w : ℕ) → k < PARTS → w < WORDS → word_at rows.new k w ≡ choice_word_of (first + w) k }
+    ensures others { (p w : ℕ) → PARTS ≤ p → word_at rows.new p w ≡ word_at rows.old p w }
 {
     for part in 0..PARTS {
         rows[part] = choices(first, part);
@@ -111,9 +111,9 @@ fn choose<const ROWS: usize>(first: usize, rows: &mut [Wide; ROWS])
 
 // The row of a part, from a word of choices on.
 fn choices(first: usize, part: usize) -> Wide
-    requires few { part < 12 }
-    requires within { first + 16 ≤ 1024 }
-    ensures { (w : ℕ) → w < 16 → slice_index_or result w 0 ≡ choice_word_of (first + w) part }
+    requires few { part < PARTS }
+    requires within { first + WORDS ≤ 1024 }
+    ensures { (w : ℕ) → w < WORDS → slice_index_or result w 0 ≡ choice_word_of (first + w) part }
 {
     array::from_fn(|word| choice_word(first + word, part))
 }
@@ -121,10 +121,10 @@ fn choices(first: usize, part: usize) -> Wide
 // Makes the rows of implications, step by step.
 fn follow<const ROWS: usize>(steps: &[Step], rows: &mut [Wide; ROWS])
     requires few { ROWS ≤ 2048 }
-    requires room { 13 + length steps.now ≤ ROWS }
+    requires room { FIRST_STEP + length steps.now ≤ ROWS }
     requires lower { LowerSteps steps.now }
-    ensures made { (j : ℕ) (s : Step) → slice_get steps.now j ≡ Some s → Made rows.new 16 j s }
-    ensures others { (p w : ℕ) → p < 13 → word_at rows.new p w ≡ word_at rows.old p w }
+    ensures made { (j : ℕ) (s : Step) → slice_get steps.now j ≡ Some s → Made rows.new WORDS j s }
+    ensures others { (p w : ℕ) → p < FIRST_STEP → word_at rows.new p w ≡ word_at rows.old p w }
 {
     for (number, step) in steps.iter().enumerate() {
         let row = implied(rows[usize::from(step.left)], rows[usize::from(step.right)]);
@@ -134,14 +134,14 @@ fn follow<const ROWS: usize>(steps: &[Step], rows: &mut [Wide; ROWS])
 
 // Where the left side is false or the right side true.
 fn implied(left: Wide, right: Wide) -> Wide
-    ensures { (w : ℕ) → w < 16 → slice_index_or result w 0 ≡ bit_or (slice_index_or right w 0) (2 ^ 64 - 1 - slice_index_or left w 0) }
+    ensures { (w : ℕ) → w < WORDS → slice_index_or result w 0 ≡ bit_or (slice_index_or right w 0) (2 ^ 64 - 1 - slice_index_or left w 0) }
 {
     array::from_fn(|word| right[word] | !left[word])
 }
 
 // Whether a row is true under all its choices.
 fn is_full(row: &Wide) -> bool
-    ensures { IsTrue result ↔ ((w : ℕ) → w < 16 → slice_index_or row.now w 0 ≡ 2 ^ 64 - 1) }
+    ensures { IsTrue result ↔ ((w : ℕ) → w < WORDS → slice_index_or row.now w 0 ≡ 2 ^ 64 - 1) }
 {
     row.iter().all(|word| *word == u64::MAX)
 }

@@ -20,7 +20,8 @@ mod step;
 // A formula list has no more entries.
 pub(crate) const ENTRIES: usize = FORMULAS as usize;
 
-// What a page says of the formula with a number as a tautology. Not admitted if it is not in the list.
+/// What a page says of the formula with a number as a tautology: admitted if it is one, beyond the limit if it has more than
+/// twelve prime parts, and else not admitted. One that is not in the list is not admitted.
 pub fn taut_verdict(formulas: &FormulaList, number: u16) -> Verdict
     ensures { result ≡ taut_verdict_in (formulas_of formulas.now) number }
 {

@@ -16,7 +16,7 @@ pub(crate) const FALSE_PLACE: usize = PARTS;
 
 pub(crate) const FIRST_STEP: usize = FALSE_PLACE + 1;
 
-// The steps by rising numbers of their entries, so that each stands behind its operands'.
+// The steps by rising numbers of their entries, so that each stands after its operands'.
 pub(crate) type Steps = ShortList<Step, ENTRIES>;
 
 // The steps, and the place of each marked entry's row.
@@ -30,7 +30,7 @@ pub(crate) struct Plan {
 pub(crate) fn make_plan(entries: &[Entry], seen: &[bool; ENTRIES], parts: &[u16]) -> Plan
     requires entered { Entered entries.now }
     requires gathered { Gathered entries.now seen.now parts.now }
-    requires few { length parts.now ≤ 12 }
+    requires few { length parts.now ≤ PARTS }
     ensures { Planned entries.now seen.now parts.now result.steps result.places }
 {
     // in its place from the start, so that no array is copied
@@ -55,12 +55,12 @@ pub(crate) fn make_plan(entries: &[Entry], seen: &[bool; ENTRIES], parts: &[u16]
 
 // The places of the parts, in their order, and that of false for all other entries.
 fn part_places(parts: &[u16]) -> [u16; ENTRIES]
-    requires few { length parts.now ≤ 12 }
-    requires within { (k n : ℕ) → slice_get parts.now k ≡ Some n → n < 1024 }
+    requires few { length parts.now ≤ PARTS }
+    requires within { (k n : ℕ) → slice_get parts.now k ≡ Some n → n < ENTRIES }
     requires once { Distinct parts.now }
     ensures parts { (k n : ℕ) → slice_get parts.now k ≡ Some n → place_of result n ≡ k }
-    ensures others { (n : ℕ) → ((k : ℕ) → slice_get parts.now k ≢ Some n) → place_of result n ≡ 12 }
-    ensures small { (n : ℕ) → place_of result n ≤ 12 }
+    ensures others { (n : ℕ) → ((k : ℕ) → slice_get parts.now k ≢ Some n) → place_of result n ≡ FALSE_PLACE }
+    ensures small { (n : ℕ) → place_of result n ≤ FALSE_PLACE }
 {
     let mut places = [FALSE_PLACE as u16; ENTRIES];
     for (place, number) in parts.iter().enumerate() {

@@ -1,4 +1,4 @@
-// A list in an array: it has room for so many items, and takes no memory from elsewhere.
+// A list in an array: it has room for a fixed number of items, and takes no memory from elsewhere.
 ghost use Rattle.std.specs.Prelude.{◌≡◌, ◌<◌, ◌≤◌, [], ◌∷◌, ◌++◌, length, nat_le};
 
 use std::marker::Model;

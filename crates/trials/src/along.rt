@@ -3,7 +3,7 @@ use crate::samples::ONCE;
 use formulas::FormulaList;
 use runs::TableRun;
 use std::test::Fail;
-use truths::{first_false, truth_at, write_rows};
+use row_writer::{first_false, truth_at, write_rows};
 
 #[test]
 fn rows_say_what_holds(rt: HostRuntime) -> Result<(), Fail> {

@@ -7,7 +7,7 @@ use Rattle.calculus.specs.Published.{published}
 use Rattle.calculus.specs.Derived.{derived}
 use Rattle.runs.specs.Tables.{table_check, table_run}
 use Rattle.runs.specs.Pulses.{pulse_check, pulse_run}
-use Rattle.truths.specs.Searching.{first_false_from, first_failing}
+use Rattle.row_writer.specs.Searching.{first_false_from, first_failing}
 use Rattle.model.specs.Calls as calls
 use Rattle.model.specs.Lines as lines
 use Rattle.model.specs.Judging as judging

@@ -7,8 +7,8 @@ use Rattle.lists.proofs.Members.{some_same, nth_within}
 use Rattle.runs.specs.Pulses.{pulse_check}
 use Rattle.runs.specs.Rules.{PulseRules}
 use Rattle.runs.specs.Tables.{table_check, table_run}
-use Rattle.runs.proofs.Ruled.{pulse_ruled}
-use Rattle.truths.specs.Searching.{first_false_from, first_failing}
+use Rattle.runs.proofs.Checks.{pulse_ruled}
+use Rattle.row_writer.specs.Searching.{first_false_from, first_failing}
 use Rattle.calculus.specs.PrimeParts.{prime_parts}
 use Rattle.calculus.specs.Rules.{taut, nex, ind}
 use Rattle.calculus.specs.Published.{published}

@@ -7,11 +7,11 @@ use model::Refutation;
 use refusals::Refusal;
 use rows::{POSITIONS, WORDS};
 use runs::RunSource;
-use truths::{first_false, truth_at, write_rows};
+use row_writer::{first_false, truth_at, write_rows};
 
 impl<S: Stage> Case<S> {
     ghost use Rattle.std.specs.Prelude.{◌≡◌, length, Ok};
-    ghost use Rattle.truths.specs.Along.{with_rows};
+    ghost use Rattle.row_writer.specs.RowsAlong.{with_rows};
     ghost use Rattle.model.specs.Judging.{check, truth, truth_scratch, judge};
     ghost use Rattle.cases.specs.Model.{modelled};
 

@@ -1,11 +1,11 @@
--- `list_into` answers what its own case and scratch come to.
+-- `list_into` answers by its own case and scratch.
 use Rattle.std.proofs.Common.{◌≡◌, ℕ, List, Err, Result, IsErr, IsErrAnd, ap, ◌∙◌, sym}
 use Rattle.checker.specs.declared.unwritten.Unwritten.{Unwritten}
 use Rattle.checker.specs.declared.unwritten.Unwritten.TheVariants.{NoMemory}
 use Rattle.checker.specs.Unwritten.{ListsInto}
 use Rattle.std.proofs.lemmas.Result.{err_from_is_err_and}
 use Rattle.cases.specs.Model.{opened}
-use Rattle.checker.proofs.Into.{lists_nothing, lists_whole, lists_too_long, lists_made}
+use Rattle.checker.proofs.InBuffer.{lists_nothing, lists_whole, lists_too_long, lists_made}
 use Rattle.checker.proofs.list_into.Goals as goal
 
 -- an error that memory is lacking is told as such

@@ -1,7 +1,7 @@
 -- `listing_of` has room for every listing.
 use Rattle.std.proofs.Common.{Err, length, ap, subst, ◌∙◌, arith}
 use Rattle.checker.specs.Unwritten.{ListsInto}
-use Rattle.checker.proofs.Into.{lists_cut, lists_always}
+use Rattle.checker.proofs.InBuffer.{lists_cut, lists_always}
 use Rattle.checker.proofs.Listed.{lists_history}
 use Rattle.checker.proofs.listing_of.Goals as goal
 

@@ -1,4 +1,4 @@
--- Nowhere if `a` fails in the loop, else behind the last place of the stem where it fails.
+-- Nowhere if `a` fails in the loop, else after the last place of the stem where it fails.
 use Rattle.std.proofs.Common.{ℕ, ◌+◌, arith}
 use Rattle.rows.proofs.Rows.{empty_row}
 use Rattle.rows.proofs.Steps.{always_none, always_some}

@@ -7,4 +7,4 @@ use Rattle.rows.proofs.put.Goals as goal
 pub returns : goal.returns
 returns c =
     c.or.ensures ∙ row_of_same _ _
-    (λ j h. ap (λ x. bit c.args.row j || x) (said c.place.result (λ j. c.args.truth && eqb j c.args.position) c.place.ensures j h))
+    (λ j h. ap (λ x. bit c.args.row j || x) (said c.only_at.result (λ j. c.args.truth && eqb j c.args.position) c.only_at.ensures j h))

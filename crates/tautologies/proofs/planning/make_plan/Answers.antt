@@ -1,12 +1,12 @@
 -- Entry by entry, a marked implication adds its step.
-use Rattle.std.proofs.Common.{◌≡◌, ℕ, ◌+◌, List, [], ◌∷◌, ◌++◌, length, set, false, get_or, ap, ap₂, ◌∙◌, arith, rules}
+use Rattle.std.proofs.Common.{◌≡◌, ℕ, ◌+◌, List, [], ◌∷◌, ◌++◌, length, set, false, get_or, ap, ap₂, ◌∙◌, subst, arith, rules}
 use Rattle.tautologies.proofs.Filling.{any_default}
-use Rattle.tautologies.specs.Planning.{place_of}
+use Rattle.tautologies.specs.Planning.{place_of, PlannedBelow}
 use Rattle.std.proofs.lemmas.Bool.{both_ways}
 use Rattle.tautologies.specs.declared.planning.Plan.{Plan}
 use Rattle.tautologies.specs.declared.step.Step.{Step}
 use Rattle.tautologies.specs.Gathering.{Marked}
-use Rattle.tautologies.proofs.Plans.{started, passed, added, same, whole}
+use Rattle.tautologies.proofs.Plans.{started, passed, added, same}
 use Rattle.tautologies.proofs.planning.make_plan.Goals as goal
 use Rattle.tautologies.proofs.planning.make_plan.Goals.{then-seen-number+in-Implies, then-seen-number+in_default, else-seen-number}
 
@@ -47,4 +47,6 @@ loop-number-preserved c =
     ]
 
 pub returns : goal.returns
-returns c = whole c.args.entries.now c.requires.entered c.args.seen.now c.args.parts.now c.requires.gathered c.loop-number.plan.places c.loop-number.plan.steps c.loop-number.number (omega (arith, c.loop-number-test.false)) (omega (arith, c.requires.entered.within)) c.loop-number.invariant
+returns c =
+    subst (λ (k : ℕ). PlannedBelow c.args.entries.now c.args.seen.now c.args.parts.now k c.loop-number.plan.steps c.loop-number.plan.places) (omega (arith, c.loop-number-test.false))
+    c.loop-number.invariant

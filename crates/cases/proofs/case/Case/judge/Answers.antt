@@ -1,9 +1,9 @@
 -- `Case::judge` meets its contract: the rows tell which assumption fails, and whether the formula is true.
 use Rattle.std.proofs.Common.{◌≡◌, ℕ, ◌+◌, ◌<◌, Bool, true, false, List, length, Some, Option, sym, ap, ◌∙◌, ap₂, arith}
 use Rattle.logic.specs.Run.{Run}
-use Rattle.truths.specs.Along.{with_rows, row_says}
-use Rattle.truths.specs.Searching.{first_failing}
-use Rattle.truths.proofs.Failing.{found_below}
+use Rattle.row_writer.specs.RowsAlong.{with_rows, row_says}
+use Rattle.row_writer.specs.Searching.{first_failing}
+use Rattle.row_writer.proofs.Failing.{found_below}
 use Rattle.model.specs.Case.{Case}
 use Rattle.model.specs.Judging.{true_at, judged_by}
 use Rattle.model.specs.Outcomes.{Judgeable}

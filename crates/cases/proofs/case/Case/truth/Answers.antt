@@ -1,7 +1,7 @@
 -- `Case::truth` meets its contract: the formula's row says its truth.
 use Rattle.std.proofs.Common.{◌≡◌, ℕ, Bool, List, length, Ok, sym, refl, ap, ◌∙◌, ap₂, arith}
 use Rattle.std.proofs.lemmas.Result.{err_from_is_err_and}
-use Rattle.truths.specs.Along.{row_says}
+use Rattle.row_writer.specs.RowsAlong.{row_says}
 use Rattle.model.specs.Judging.{truth, truth_scratch}
 use Rattle.model.proofs.Scratch.{judgeable, rows_written, row_tells}
 use Rattle.cases.specs.Model.{modelled}

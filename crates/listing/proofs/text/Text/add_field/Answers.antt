@@ -1,6 +1,6 @@
 -- `Text::add_field` has room for its number's digits.
 use Rattle.std.proofs.Common.{length, ap, arith, length-append}
-use Rattle.listing.proofs.Spelling.{decimal_short}
+use Rattle.listing.proofs.Decimals.{decimal_short}
 use Rattle.listing.proofs.text.Text.add_field.Goals as goal
 
 pub add_number-requires : goal.add_number-requires

@@ -2,8 +2,7 @@
 use Rattle.std.proofs.Common.{ap, ◌∙◌, sym}
 use Rattle.runs.specs.Meanings.{table_meaning}
 use Rattle.runs.specs.Tables.{table_check, table_run, words_say}
-use Rattle.runs.proofs.Given.{tables_as_given}
-use Rattle.runs.proofs.Passing.{looped_same, run_or, table_failed_run, table_silent}
+use Rattle.runs.proofs.Checks.{looped_same, run_or, table_failed_run}
 use Rattle.runs.proofs.table.TableRun.new.Goals as goal
 
 pub returns-clause-run : goal.returns-clause-run
@@ -13,9 +12,3 @@ returns-clause-run c =
     ap table_meaning c.unwrap_or.ensures
     ∙ run_or (table_check bytes) (table_run bytes) table_meaning c.try_from.result silent.result c.try_from.ensures
     (λ e failed. looped_same silent.ensures.stem silent.ensures.loops (ap (λ words. words_say words.0.now) silent.ensures.positions) ∙ sym (table_failed_run bytes e failed))
-
-pub returns-clause-given : goal.returns-clause-given
-returns-clause-given c = tables_as_given c.args.bytes.now
-
-pub returns-clause-otherwise : goal.returns-clause-otherwise
-returns-clause-otherwise c = table_silent c.args.bytes.now

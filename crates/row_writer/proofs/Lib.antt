@@ -1,0 +1,4 @@
+pub mod RowsAlong
+mod Folding
+mod Entries
+pub mod Failing

@@ -1,0 +1,3 @@
+pub mod RowsAlong
+pub mod Steps
+pub mod Searching

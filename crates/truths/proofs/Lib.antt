@@ -1,4 +1,0 @@
-pub mod Along
-mod Folding
-mod Entries
-pub mod Failing

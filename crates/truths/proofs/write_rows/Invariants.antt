@@ -1,8 +1,0 @@
--- The rows of the formulas that the loop has passed are written, and what lies behind them is as it was.
-use Rattle.std.proofs.Common.{◌≡◌, take}
-use Rattle.formulas.specs.Listed.{formulas_of}
-use Rattle.truths.specs.Along.{with_rows}
-use Rattle.truths.proofs.write_rows.Given as goal
-
-abbrev pub invariant-loop-number : goal.invariant-loop-number
-invariant-loop-number g l = l.words ≡ with_rows (g.R.RunSource.meaning l.source) (take l.number (formulas_of l.formulas)) l.initial.words
