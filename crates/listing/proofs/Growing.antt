@@ -1,6 +1,6 @@
 -- The lines of formulas grow by one formula after another.
-use Rattle.std.proofs.Common.{List, Ok, Err, get_or, ltb, sym, ap, ◌∙◌, ◌≡◌, ℕ, zero, suc, ◌+◌, ◌<◌, ◌≤◌, ◌++◌, length, inl, inr, add-one, arith, length-append}
-use Rattle.std.proofs.lemmas.Bool.{cases_lt, cond-true, lt-ltb}
+use Rattle.std.proofs.Common.{List, Ok, Err, get_or, leb, sym, ap, ◌∙◌, ◌≡◌, ℕ, zero, suc, ◌+◌, ◌<◌, ◌≤◌, ◌++◌, length, inl, inr, add-one, arith, length-append}
+use Rattle.std.proofs.lemmas.Bool.{cases_lt, cond-false, lt-leb}
 use Rattle.std.proofs.lemmas.Option.{slice_get-get_or}
 use Rattle.lists.proofs.Members.{some_same}
 use Rattle.refusals.specs.declared.Refusal.TheVariants.{NotEntered}
@@ -33,4 +33,4 @@ line_told c standings long so f i d is there few =
     ap (λ (k : ℕ). get_or standings k d) is
     ∙ some_same (sym (slice_get-get_or standings f d (omega (arith, long))) ∙ slice_get-get_or standings f Open (omega (arith, long))) in
     ap (λ (s : Standing). line_of_standing f (Ok s)) (here ∙ so f few)
-    ∙ ap (line_of_standing f) (sym (cond-true (ltb f (length c.formulas)) (Ok (standing_by (first_line c f) (first_refutation_of c f))) (Err NotEntered) (lt-ltb f (length c.formulas) there)))
+    ∙ ap (line_of_standing f) (sym (cond-false (leb (length c.formulas) f) (Err NotEntered) _ (lt-leb (length c.formulas) f there)))

@@ -1,7 +1,7 @@
 -- A listing of a case that has no more of each than a case takes has at most 20,480 bytes.
-use Rattle.std.proofs.Common.{◌≡◌, ℕ, zero, suc, ◌*◌, ◌^◌, ◌<◌, ◌≤◌, Bool, List, [], ◌∷◌, length, ltb, Some, None, Ok, Err, Option, Result, refl, arith, length-append}
+use Rattle.std.proofs.Common.{◌≡◌, ℕ, zero, suc, ◌*◌, ◌^◌, ◌<◌, ◌≤◌, Bool, List, [], ◌∷◌, length, leb, Some, None, Ok, Err, Option, Result, refl, arith, length-append}
 use Rattle.std.specs.List.{position}
-use Rattle.std.proofs.lemmas.Bool.{cond_both, ltb-true}
+use Rattle.std.proofs.lemmas.Bool.{cond_both, leb-false}
 use Rattle.std.proofs.lemmas.List.Quantifiers.{position-Some}
 use Rattle.refusals.specs.declared.Refusal.TheVariants.{NotEntered}
 use Rattle.model.specs.Case.{Case}
@@ -65,13 +65,13 @@ module _ (c : Case) (formulas : length c.formulas ≤ 10 ^ 4) (lines : length c.
   standing_short : (f : ℕ) → length (line_of_standing f (standing_in c f)) ≤ 18
   unfolding line_of_standing
   standing_short f =
-      cond_both (ltb f (length c.formulas)) (Ok (standing_by (first_line c f) (first_refutation_of c f))) (Err NotEntered)
+      cond_both (leb (length c.formulas) f) (Err NotEntered) (Ok (standing_by (first_line c f) (first_refutation_of c f)))
       (λ r. length (line_of_standing f r) ≤ 18)
-      (λ entered. line_short f (first_line c f) (first_refutation_of c f)
-      (omega (arith, ltb-true f (length c.formulas) entered))
+      (λ _. omega arith)
+      (λ known. line_short f (first_line c f) (first_refutation_of c f)
+      (omega (arith, leb-false (length c.formulas) f known))
       (λ k is. omega (arith, found_below _ c.lines k is))
       (λ k is. omega (arith, found_below _ c.refutations k is)))
-      (λ _. omega arith)
 
   standings_short : (f : ℕ) → length (standing_lines_to c f) ≤ 18 * f
   unfolding standing_lines_to

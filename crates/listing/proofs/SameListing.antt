@@ -1,7 +1,7 @@
 -- Two cases and endings with one listing are told alike: the text is read from its front.
 use Rattle.std.proofs.Common.{◌≡◌, ℕ, zero, suc, ◌+◌, ◌^◌, ◌<◌, ◌≤◌, List, [], ◌∷◌, ◌++◌, length, codes, decimal, get_or, inl, inr, subst, Some, None, Ok, Err, Option, Result, refl, sym, ap, ◌∙◌, append_assoc, arith}
 use lib.Dec
-use Rattle.std.proofs.lemmas.Bool.{cond-true, cond-false, cases_lt, lt-ltb, le-ltb}
+use Rattle.std.proofs.lemmas.Bool.{cond-true, cond-false, cases_lt, le-leb, lt-leb}
 use Rattle.std.proofs.lemmas.List.{append_cancel_left}
 use Rattle.refusals.specs.declared.Refusal.TheVariants.{NotEntered}
 use Rattle.model.specs.Case.{Case}
@@ -144,10 +144,10 @@ abbrev pub stands : Case → ℕ → Standing
 stands c k = standing_by (first_line c k) (first_refutation_of c k)
 
 pub entered : (c : Case) (k : ℕ) → k < length c.formulas → standing_in c k ≡ Ok (stands c k)
-entered c k within = cond-true (Dec.ltb k (length c.formulas)) _ _ (lt-ltb _ _ within)
+entered c k within = cond-false (Dec.leb (length c.formulas) k) _ _ (lt-leb _ _ within)
 
 pub past : (c : Case) (k : ℕ) → length c.formulas ≤ k → standing_in c k ≡ Err NotEntered
-past c k beyond = cond-false (Dec.ltb k (length c.formulas)) _ _ (le-ltb _ _ beyond)
+past c k beyond = cond-true (Dec.leb (length c.formulas) k) _ _ (le-leb _ _ beyond)
 
 small_by : (derived refuted : Option ℕ) → ((k : ℕ) → derived ≡ Some k → k < 2 ^ 64) → ((k : ℕ) → refuted ≡ Some k → k < 2 ^ 64) → Small (standing_by derived refuted)
 small_by (Some n) refuted lines refutations = lines n refl
