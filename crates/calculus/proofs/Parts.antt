@@ -3,19 +3,19 @@ use Rattle.std.proofs.Common.{◌≡◌, ℕ, ◌⊎◌, cond, List, [], ◌∷�
 use Rattle.std.specs.List.{slice_get}
 use Rattle.logic.specs.Formula.{Formula, falsum, atom, implies, next, always}
 use Rattle.logic.specs.Same.{same}
-use Rattle.lists.specs.Adding.{Distinct, Member, place}
+use Rattle.lists.specs.Adding.{Distinct, Member, first_like}
 use Rattle.lists.proofs.Members.{nth_push, nth_pushed, nth_stays, distinct_push}
-use Rattle.lists.proofs.Places.{place_is, none_there}
+use Rattle.lists.proofs.Places.{first_like_is, none_there}
 use Rattle.logic.proofs.Same.{same_tells}
 use Rattle.calculus.specs.PrimeParts.{PrimePart, add, gathered}
 use Rattle.calculus.specs.Promises.{PrimePartsListed}
 
 -- what holds of the list as it is if A is in it, and else of the list with A at its end, holds of the list to which A is added
 add_both : (P : List Formula → Type 0) (ps : List Formula) (A : Formula) → (Member ps A → P ps) → ((Member ps A → ⊥) → P (ps ++ A ∷ [])) → P (add ps A)
-add_both P ps A there new = by (place same ps A) refl
+add_both P ps A there new = by (first_like same ps A) refl
   where
-    by : (o : Option ℕ) → place same ps A ≡ o → P (cond (is_some o) ps (ps ++ A ∷ []))
-    by (Some i) found = there (i, place_is same same_tells ps A i found)
+    by : (o : Option ℕ) → first_like same ps A ≡ o → P (cond (is_some o) ps (ps ++ A ∷ []))
+    by (Some i) found = there (i, first_like_is same same_tells ps A i found)
     by None found = new (λ is. none_there same same_tells ps A found is.0 is.1)
 
 pub add_has : (ps : List Formula) (A : Formula) → Member (add ps A) A

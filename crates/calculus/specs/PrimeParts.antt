@@ -2,7 +2,7 @@
 use Rattle.std.specs.Prelude.{◌≡◌, Bool, true, false, ◌&&◌, if◌then◌else◌, ◌⊎◌, List, [], ◌∷◌, ◌++◌, is_some}
 use Rattle.logic.specs.Formula.{Formula, falsum, atom, implies, next, always}
 use Rattle.logic.specs.Same.{same}
-use Rattle.lists.specs.Adding.{place}
+use Rattle.lists.specs.Adding.{first_like}
 use Rattle.calculus.specs.Tautology.{eval}
 
 -- P is a prime part of a formula: an atom, or with ○ or □ on top, and reached by going down through implications only
@@ -15,7 +15,7 @@ PrimePart (always A) P = always A ≡ P
 
 -- a list with one more formula at its end, unless it is there
 abbrev pub add : List Formula → Formula → List Formula
-add ps A = if is_some (place same ps A) then ps else ps ++ A ∷ []
+add ps A = if is_some (first_like same ps A) then ps else ps ++ A ∷ []
 
 -- a list with the prime parts of a formula, from left to right
 abbrev pub gathered : List Formula → Formula → List Formula

@@ -11,12 +11,12 @@ use Rattle.logic.specs.Formula.{Formula, falsum}
 use Rattle.logic.specs.Same.{same}
 use Rattle.formulas.specs.declared.entry.Entry.{Entry}
 use Rattle.formulas.specs.declared.entry.Entry.TheVariants.{False}
-use Rattle.lists.specs.Adding.{Distinct, place, number_for, add_answer, add_after}
+use Rattle.lists.specs.Adding.{Distinct, first_like, number_for, add_answer, add_after}
 use Rattle.formulas.specs.Entries.{placed, alike, asked, Lower}
 use Rattle.formulas.specs.Decode.{of_entry, formula_at, decoded}
 use Rattle.formulas.specs.Forming.{numbered, answer_for, after_for, entries_for, form_answer, form_after, entries_after}
 use Rattle.lists.proofs.Members.{some_same, nth_within, distinct_push}
-use Rattle.lists.proofs.Places.{place_is, place_only, place_none, none_there, same_place}
+use Rattle.lists.proofs.Places.{first_like_is, first_like_only, first_like_none, none_there, same_first_like}
 use Rattle.logic.proofs.Same.{same_tells}
 use Rattle.formulas.proofs.Likeness.{entry_eq, entry_tells, alike_tells}
 use Rattle.formulas.proofs.Decoded.{of_entry_same, of_entry_injective, formula_at_is, formula_kept, formula_injective, decoded_length, decoded_at, decoded_nth}
@@ -60,9 +60,9 @@ module _ (es : List Entry) (low : Lower es) (distinct : Distinct es) where
         decoded_nth es k k_in ∙ ap Some (formula_at_is es low k k_in ∙ ap (of_entry (formula_at es)) here)
 
     -- an entry is found where its formula is
-    places : (o : Option ℕ) → place entry_eq es e ≡ o → place same (decoded es) meaning ≡ o
-    places (Some i) is = place_only same same_tells (decoded es) meaning decoded_distinct i (formula_there i (place_is entry_eq entry_tells es e i is))
-    places None is = place_none same same_tells (decoded es) meaning (λ k there. none_there entry_eq entry_tells es e is k (entry_there k there))
+    places : (o : Option ℕ) → first_like entry_eq es e ≡ o → first_like same (decoded es) meaning ≡ o
+    places (Some i) is = first_like_only same same_tells (decoded es) meaning decoded_distinct i (formula_there i (first_like_is entry_eq entry_tells es e i is))
+    places None is = first_like_none same same_tells (decoded es) meaning (λ k there. none_there entry_eq entry_tells es e is k (entry_there k there))
 
     decoded_push : decoded (es ++ e ∷ []) ≡ decoded es ++ meaning ∷ []
     decoded_push =
@@ -94,28 +94,28 @@ module _ (es : List Entry) (low : Lower es) (distinct : Distinct es) where
     asked_here : asked (length (decoded es)) kind left right ≡ Ok e
     asked_here = ap (λ (n : ℕ). asked n kind left right) (decoded_length es) ∙ is
 
-    answer_is : (o : Option ℕ) → place entry_eq es e ≡ o → add_answer 1024 FormulasFull (decoded es) o ≡ form_answer (decoded es) kind left right
+    answer_is : (o : Option ℕ) → first_like entry_eq es e ≡ o → add_answer 1024 FormulasFull (decoded es) o ≡ form_answer (decoded es) kind left right
     unfolding form_answer
     answer_is o found =
         sym (ap (answer_for (decoded es)) asked_here
-        ∙ ap (λ (A : Formula). add_answer 1024 FormulasFull (decoded es) (place same (decoded es) A)) (meant e fine)
+        ∙ ap (λ (A : Formula). add_answer 1024 FormulasFull (decoded es) (first_like same (decoded es) A)) (meant e fine)
         ∙ ap (add_answer 1024 FormulasFull (decoded es)) (places e fine o found))
 
-    after_is : (o : Option ℕ) → place entry_eq es e ≡ o → add_after 1024 (decoded es) (of_entry (formula_at es) e) o ≡ form_after (decoded es) kind left right
+    after_is : (o : Option ℕ) → first_like entry_eq es e ≡ o → add_after 1024 (decoded es) (of_entry (formula_at es) e) o ≡ form_after (decoded es) kind left right
     unfolding form_after
     after_is o found =
         sym (ap (after_for (decoded es)) asked_here
-        ∙ ap (λ (A : Formula). add_after 1024 (decoded es) A (place same (decoded es) A)) (meant e fine)
+        ∙ ap (λ (A : Formula). add_after 1024 (decoded es) A (first_like same (decoded es) A)) (meant e fine)
         ∙ ap (add_after 1024 (decoded es) (of_entry (formula_at es) e)) (places e fine o found))
 
-    entries_are : (o : Option ℕ) → place entry_eq es e ≡ o → add_after 1024 es e o ≡ entries_after es kind left right
+    entries_are : (o : Option ℕ) → first_like entry_eq es e ≡ o → add_after 1024 es e o ≡ entries_after es kind left right
     unfolding entries_after
-    entries_are o found = sym (ap (entries_for es) is ∙ ap (add_after 1024 es e) (same_place alike entry_eq alike_tells entry_tells es e ∙ found))
+    entries_are o found = sym (ap (entries_for es) is ∙ ap (add_after 1024 es e) (same_first_like alike entry_eq alike_tells entry_tells es e ∙ found))
 
-    formed_old : (i : ℕ) → place entry_eq es e ≡ Some i → Formed es es kind left right (Ok i)
+    formed_old : (i : ℕ) → first_like entry_eq es e ≡ Some i → Formed es es kind left right (Ok i)
     formed_old i found = record { answer = answer_is (Some i) found; after = after_is (Some i) found; entries = entries_are (Some i) found; distinct = decoded_distinct; apart = distinct; lower = low }
 
-    module _ (found : place entry_eq es e ≡ None) where
+    module _ (found : first_like entry_eq es e ≡ None) where
       none_before : (k : ℕ) → slice_get es k ≡ Some e → ⊥
       none_before = none_there entry_eq entry_tells es e found
 
@@ -139,7 +139,7 @@ module _ (es : List Entry) (low : Lower es) (distinct : Distinct es) where
       pushed_lower = lower_push es e low fine
 
 -- a new entry stands at the end
-formed_new : (es : List Entry) (low : Lower es) (distinct : Distinct es) (kind left right : ℕ) (e : Entry) (is : asked (length es) kind left right ≡ Ok e) → place entry_eq es e ≡ None
+formed_new : (es : List Entry) (low : Lower es) (distinct : Distinct es) (kind left right : ℕ) (e : Entry) (is : asked (length es) kind left right ≡ Ok e) → first_like entry_eq es e ≡ None
     → length es < 1024 → Formed es (es ++ e ∷ []) kind left right (Ok (length es))
 formed_new es low distinct kind left right e is found room =
     let b = lt-ltb (length (decoded es)) 1024 (omega (arith, decoded_length es)) in
@@ -160,7 +160,7 @@ formed_new es low distinct kind left right e is found room =
 
 -- entering what is asked for, by where it stands already
 pub formed : (es : List Entry) (low : Lower es) (distinct : Distinct es) (kind left right : ℕ) (e : Entry) (is : asked (length es) kind left right ≡ Ok e)
-    → (o : Option ℕ) → place entry_eq es e ≡ o → Formed es (add_after 1024 es e o) kind left right (ok_or (number_for 1024 es o) FormulasFull)
+    → (o : Option ℕ) → first_like entry_eq es e ≡ o → Formed es (add_after 1024 es e o) kind left right (ok_or (number_for 1024 es o) FormulasFull)
 formed es low distinct kind left right e is (Some i) found = formed_old es low distinct kind left right e is i found
 formed es low distinct kind left right e is None found =
     let by : Bool → Type 0 = λ b. Formed es (cond b (es ++ e ∷ []) es) kind left right (ok_or (cond b (Some (length es)) None) FormulasFull) in

@@ -5,7 +5,7 @@ use Rattle.formulas.specs.declared.refusal.FormRefusal.TheVariants.{FormulasFull
 use Rattle.logic.specs.Formula.{Formula, falsum}
 use Rattle.logic.specs.Same.{same}
 use Rattle.formulas.specs.declared.entry.Entry.{Entry}
-use Rattle.lists.specs.Adding.{place, add_answer, add_after}
+use Rattle.lists.specs.Adding.{first_like, add_answer, add_after}
 use Rattle.formulas.specs.Entries.{alike, asked}
 use Rattle.formulas.specs.Decode.{of_entry}
 
@@ -15,10 +15,10 @@ numbered fs n = slice_index_or fs n falsum
 
 -- a list of formulas takes 1,024; one that is there answers its old number
 abbrev pub enter_answer : List Formula → Formula → Result ℕ FormRefusal
-enter_answer fs A = add_answer 1024 FormulasFull fs (place same fs A)
+enter_answer fs A = add_answer 1024 FormulasFull fs (first_like same fs A)
 
 abbrev pub enter_after : List Formula → Formula → List Formula
-enter_after fs A = add_after 1024 fs A (place same fs A)
+enter_after fs A = add_after 1024 fs A (first_like same fs A)
 
 -- the same for what is asked for, or refused already
 abbrev pub answer_for : List Formula → Result Entry FormRefusal → Result ℕ FormRefusal
@@ -31,7 +31,7 @@ after_for fs (Err x) = fs
 
 -- the entries, where an entry is asked for or refused already
 abbrev pub entries_for : List Entry → Result Entry FormRefusal → List Entry
-entries_for es (Ok e) = add_after 1024 es e (place alike es e)
+entries_for es (Ok e) = add_after 1024 es e (first_like alike es e)
 entries_for es (Err x) = es
 
 -- what `form` answers, and the formulas and the entries afterwards

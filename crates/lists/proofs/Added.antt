@@ -4,9 +4,9 @@ use Rattle.std.specs.List.{slice_get}
 use Rattle.std.specs.Option.{ok_or}
 use Rattle.std.proofs.lemmas.List.{length_push}
 use Rattle.std.proofs.lemmas.Bool.{cond_both, cond-true, ltb-true, ltb-false, lt-ltb}
-use Rattle.lists.specs.Adding.{Distinct, place, number_for, add_answer, add_after}
+use Rattle.lists.specs.Adding.{Distinct, first_like, number_for, add_answer, add_after}
 use Rattle.lists.proofs.Members.{distinct_push, every_push}
-use Rattle.lists.proofs.Places.{IsEquality, place_is, none_there}
+use Rattle.lists.proofs.Places.{IsEquality, first_like_is, none_there}
 
 -- no list gets shorter
 pub add_longer : {X : Type 0} (most : ℕ) (xs : List X) (x : X) (o : Option ℕ) → length xs ≤ length (add_after most xs x o)
@@ -37,10 +37,10 @@ number_or most full xs None = by (ltb (length xs) most)
     by false = refl
 
 -- a list without repeats stays one
-pub add_distinct : {X : Type 0} (eq : X → X → Bool) → IsEquality eq → (most : ℕ) (xs : List X) (x : X) → Distinct xs → Distinct (add_after most xs x (place eq xs x))
-add_distinct {X} eq tells most xs x distinct = by (place eq xs x) refl
+pub add_distinct : {X : Type 0} (eq : X → X → Bool) → IsEquality eq → (most : ℕ) (xs : List X) (x : X) → Distinct xs → Distinct (add_after most xs x (first_like eq xs x))
+add_distinct {X} eq tells most xs x distinct = by (first_like eq xs x) refl
   where
-    by : (o : Option ℕ) → place eq xs x ≡ o → Distinct (add_after most xs x o)
+    by : (o : Option ℕ) → first_like eq xs x ≡ o → Distinct (add_after most xs x o)
     by (Some i) found = distinct
     by None found = cond_both (ltb (length xs) most) (xs ++ x ∷ []) xs Distinct (λ _. distinct_push xs x distinct (none_there eq tells xs x found)) (λ _. distinct)
 
@@ -58,11 +58,11 @@ pub data AddEnds {X E : Type 0} (most : ℕ) (full : E) (xs : List X) (x : X) : 
   added : ((k : ℕ) → slice_get xs k ≡ Some x → ⊥) → length xs < most → AddEnds most full xs x (Ok (length xs)) (xs ++ x ∷ [])
 
 pub add_ends : {X E : Type 0} (eq : X → X → Bool) → IsEquality eq → (most : ℕ) (full : E) (xs : List X) (x : X)
-    → AddEnds most full xs x (add_answer most full xs (place eq xs x)) (add_after most xs x (place eq xs x))
-add_ends {X} eq tells most full xs x = by (place eq xs x) refl
+    → AddEnds most full xs x (add_answer most full xs (first_like eq xs x)) (add_after most xs x (first_like eq xs x))
+add_ends {X} eq tells most full xs x = by (first_like eq xs x) refl
   where
-    by : (o : Option ℕ) → place eq xs x ≡ o → AddEnds most full xs x (add_answer most full xs o) (add_after most xs x o)
-    by (Some k) found = already_there k (place_is eq tells xs x k found)
+    by : (o : Option ℕ) → first_like eq xs x ≡ o → AddEnds most full xs x (add_answer most full xs o) (add_after most xs x o)
+    by (Some k) found = already_there k (first_like_is eq tells xs x k found)
     by None found = by_room (ltb (length xs) most) refl
       where
         by_room : (b : Bool) → ltb (length xs) most ≡ b → AddEnds most full xs x (cond b (Ok (length xs)) (Err full)) (cond b (xs ++ x ∷ []) xs)

@@ -7,7 +7,7 @@ use Rattle.std.proofs.lemmas.List.Quantifiers.{position-Some}
 use Rattle.std.proofs.lemmas.List.Sums.{position_or_len_is, fails_before_first}
 use Rattle.std.proofs.lemmas.List.{get_or-take, get_or-drop, length-take-le, length-drop}
 use Rattle.std.proofs.lemmas.Option.{slice_get-get_or}
-use Rattle.lists.specs.Adding.{Distinct, place, place_from}
+use Rattle.lists.specs.Adding.{Distinct, first_like, first_like_from}
 use Rattle.lists.proofs.Members.{some_same, some_not_none, nth_within}
 
 -- the test is equality
@@ -31,14 +31,14 @@ module _ {X : Type 0} (eq : X → X → Bool) (tells : IsEquality eq) where
         subst (λ (y : X). eq y x ≡ true) (sym here) (tells.itself x)
 
     -- the place that is found holds x
-    pub place_is : (i : ℕ) → place eq ys x ≡ Some i → slice_get ys i ≡ Some x
-    place_is i found =
+    pub first_like_is : (i : ℕ) → first_like eq ys x ≡ Some i → slice_get ys i ≡ Some x
+    first_like_is i found =
         let at = position-Some (λ y. eq y x) ys i x found in
         slice_get-get_or ys i x at.0 ∙ ap Some (tells.sound (get_or ys i x) x at.1)
 
     -- in a list without repeats, the only place is the first
-    pub place_only : Distinct ys → (i : ℕ) → slice_get ys i ≡ Some x → place eq ys x ≡ Some i
-    place_only distinct i is =
+    pub first_like_only : Distinct ys → (i : ℕ) → slice_get ys i ≡ Some x → first_like eq ys x ≡ Some i
+    first_like_only distinct i is =
         let i_in : i < length ys = nth_within ys i is in
         let at : position_or_len (λ y. eq y x) ys ≡ i =
         position_or_len_is (λ y. eq y x) ys i x (omega arith)
@@ -47,8 +47,8 @@ module _ {X : Type 0} (eq : X → X → Bool) (tells : IsEquality eq) where
         cond-true (ltb (position_or_len (λ y. eq y x) ys) (length ys)) _ _ (lt-ltb _ _ (omega arith)) ∙ ap Some at
 
     -- no place is found where x is not
-    pub place_none : ((k : ℕ) → slice_get ys k ≡ Some x → ⊥) → place eq ys x ≡ None
-    place_none none =
+    pub first_like_none : ((k : ℕ) → slice_get ys k ≡ Some x → ⊥) → first_like eq ys x ≡ None
+    first_like_none none =
         let at : position_or_len (λ y. eq y x) ys ≡ length ys =
         position_or_len_is (λ y. eq y x) ys (length ys) x (omega arith)
         (λ k within. differ (get_or ys k x) x (λ z. none k (slice_get-get_or ys k x within ∙ ap Some z)))
@@ -56,7 +56,7 @@ module _ {X : Type 0} (eq : X → X → Bool) (tells : IsEquality eq) where
         cond-false (ltb (position_or_len (λ y. eq y x) ys) (length ys)) _ _ (le-ltb _ _ (omega arith))
 
     -- where no place is found, x is not
-    pub none_there : place eq ys x ≡ None → (k : ℕ) → slice_get ys k ≡ Some x → ⊥
+    pub none_there : first_like eq ys x ≡ None → (k : ℕ) → slice_get ys k ≡ Some x → ⊥
     none_there found k is =
         elim (cases_lt (position_or_len (λ y. eq y x) ys) (length ys)) [
           | inl within ↦ some_not_none (sym (cond-true (ltb (position_or_len (λ y. eq y x) ys) (length ys)) _ _ (lt-ltb _ _ within)) ∙ found)
@@ -112,12 +112,12 @@ module _ {X : Type 0} (p : X → Bool) (xs : List X) (start : ℕ) (d : X) (ther
       (λ h. ap p (at_rest (start + i) (omega arith) ∙ ap (λ j. get_or rest j d) (omega arith)) ∙ passes))
 
 -- where none below a number is x, x is found from there on
-pub place_from_is : {X : Type 0} (eq : X → X → Bool) (xs : List X) (start : ℕ) (x : X) → start ≤ length xs → place eq (take start xs) x ≡ None → place_from eq start xs x ≡ place eq xs x
-place_from_is eq xs start x there none = sym (position_from (λ y. eq y x) xs start x there none (place eq (drop start xs) x) refl)
+pub first_like_from_is : {X : Type 0} (eq : X → X → Bool) (xs : List X) (start : ℕ) (x : X) → start ≤ length xs → first_like eq (take start xs) x ≡ None → first_like_from eq start xs x ≡ first_like eq xs x
+first_like_from_is eq xs start x there none = sym (position_from (λ y. eq y x) xs start x there none (first_like eq (drop start xs) x) refl)
 
 -- two tests that are both equality find the same place
-pub same_place : {X : Type 0} (e f : X → X → Bool) → IsEquality e → IsEquality f → (ys : List X) (x : X) → place e ys x ≡ place f ys x
-same_place {X} e f of_e of_f ys x = ap (λ (t : X → X → Bool). place t ys x) (λ i y z. same y z i)
+pub same_first_like : {X : Type 0} (e f : X → X → Bool) → IsEquality e → IsEquality f → (ys : List X) (x : X) → first_like e ys x ≡ first_like f ys x
+same_first_like {X} e f of_e of_f ys x = ap (λ (t : X → X → Bool). first_like t ys x) (λ i y z. same y z i)
   where
     same : (y z : X) → e y z ≡ f y z
     same y z = elim (cases_Bool (f y z)) [

@@ -12,12 +12,12 @@ abbrev pub Member : {X : Type 0} → List X → X → Type 0
 Member xs x = (n : ℕ) × (slice_get xs n ≡ Some x)
 
 -- where x first stands, by a test of likeness
-abbrev pub place : {X : Type 0} → (X → X → Bool) → List X → X → Option ℕ
-place alike xs x = position (λ y. alike y x) xs
+abbrev pub first_like : {X : Type 0} → (X → X → Bool) → List X → X → Option ℕ
+first_like alike xs x = position (λ y. alike y x) xs
 
 -- the same from a number on
-abbrev pub place_from : {X : Type 0} → (X → X → Bool) → ℕ → List X → X → Option ℕ
-place_from alike start xs x = option_map (λ k. start + k) (place alike (drop start xs) x)
+abbrev pub first_like_from : {X : Type 0} → (X → X → Bool) → ℕ → List X → X → Option ℕ
+first_like_from alike start xs x = option_map (λ k. start + k) (first_like alike (drop start xs) x)
 
 -- the answer for what stands at a place already, or nowhere: its place, else the next one, or a refusal where the list is full
 abbrev pub add_answer : {X E : Type 0} → ℕ → E → List X → Option ℕ → Result ℕ E

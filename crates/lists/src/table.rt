@@ -1,7 +1,7 @@
 // A table: a list whose memory is set aside once.
 ghost use Rattle.std.specs.Prelude.{◌≡◌, ◌<◌, ◌≤◌, [], length, None, IfOk, IfSome, nat_le};
 ghost use Rattle.std.specs.List.{slice_get};
-ghost use Rattle.lists.specs.Adding.{place, place_from, number_for, add_after};
+ghost use Rattle.lists.specs.Adding.{first_like, first_like_from, number_for, add_after};
 
 use std::alloc::{AllocError, Global};
 use std::marker::Model;
@@ -71,9 +71,9 @@ impl<T: Copy, const MOST: u16> Table<T, MOST> {
     }
 }
 
-// The place of the first item that equals this one.
+// Where the first item that equals this one stands.
 fn first_equal<T: Copy + PartialEq>(items: &[T], item: T) -> Option<usize>
-    ensures number { result ≡ place T.eq items.now item }
+    ensures number { result ≡ first_like T.eq items.now item }
     ensures within { IfSome result (λ n. n < length items.now) }
 {
     items.iter().position(|old| *old == item)
@@ -82,7 +82,7 @@ fn first_equal<T: Copy + PartialEq>(items: &[T], item: T) -> Option<usize>
 impl<T: Copy + PartialEq, const MOST: u16> Table<T, MOST> {
     /// The number of the first item that equals this one, or none.
     pub fn find(&self, item: T) -> Option<usize>
-        ensures number { result ≡ place T.eq self.now item }
+        ensures number { result ≡ first_like T.eq self.now item }
         ensures within { IfSome result (λ n. n < MOST) }
     {
         first_equal(self.as_slice(), item)
@@ -90,7 +90,7 @@ impl<T: Copy + PartialEq, const MOST: u16> Table<T, MOST> {
 
     // The same from a number on: no item below it is looked at.
     fn find_from(&self, start: usize, item: T) -> Option<usize>
-        ensures number { result ≡ place_from T.eq start self.now item }
+        ensures number { result ≡ first_like_from T.eq start self.now item }
         ensures within { IfSome result (λ n. n < MOST) }
     {
         let rest = self.as_slice().get(start..)?;
@@ -99,8 +99,8 @@ impl<T: Copy + PartialEq, const MOST: u16> Table<T, MOST> {
 
     /// The number of the first item that equals this one, which is added if there is none. None where the table is full.
     pub fn enter(&mut self, item: T) -> Option<u16>
-        ensures number { result ≡ number_for MOST self.old (place T.eq self.old item) }
-        ensures after { self.new ≡ add_after MOST self.old item (place T.eq self.old item) }
+        ensures number { result ≡ number_for MOST self.old (first_like T.eq self.old item) }
+        ensures after { self.new ≡ add_after MOST self.old item (first_like T.eq self.old item) }
     {
         let found = self.find(item);
         self.found_or_added(found, item)
@@ -108,8 +108,8 @@ impl<T: Copy + PartialEq, const MOST: u16> Table<T, MOST> {
 
     /// The same, where items below a number are not looked at.
     pub fn enter_from(&mut self, start: usize, item: T) -> Option<u16>
-        ensures number { result ≡ number_for MOST self.old (place_from T.eq start self.old item) }
-        ensures after { self.new ≡ add_after MOST self.old item (place_from T.eq start self.old item) }
+        ensures number { result ≡ number_for MOST self.old (first_like_from T.eq start self.old item) }
+        ensures after { self.new ≡ add_after MOST self.old item (first_like_from T.eq start self.old item) }
     {
         let found = self.find_from(start, item);
         self.found_or_added(found, item)

@@ -7,7 +7,7 @@ use Rattle.logic.specs.Run.{Run}
 use Rattle.calculus.specs.declared.verdict.Verdict.{Verdict}
 use Rattle.calculus.specs.Pages.{Page}
 use Rattle.row_writer.specs.RowsAlong.{with_rows}
-use Rattle.lists.specs.Adding.{place, add_answer, add_after}
+use Rattle.lists.specs.Adding.{first_like, add_answer, add_after}
 use Rattle.model.specs.declared.line.Line.{Line}
 use Rattle.model.specs.Case.{Case}
 use Rattle.model.specs.Calls.{unchanged, assume}
@@ -21,8 +21,8 @@ module _ (c : Case) where
     assume_unknown past = grind (arith, nat_tests)
 
     pub assume_known : f < length c.formulas → assume c f ≡ record {
-      answer = add_answer 16 AssumptionsFull c.assumptions (place eqb c.assumptions f);
-      after = record c { assumptions = add_after 16 c.assumptions f (place eqb c.assumptions f) };
+      answer = add_answer 16 AssumptionsFull c.assumptions (first_like eqb c.assumptions f);
+      after = record c { assumptions = add_after 16 c.assumptions f (first_like eqb c.assumptions f) };
     }
     unfolding assume
     assume_known known = grind (arith, nat_tests)

@@ -13,7 +13,7 @@ use Rattle.model.specs.Outcomes.{Unjudgeable, scratch_too_short}
 use Rattle.model.specs.History.{after}
 use Rattle.model.specs.Promises.{ScratchSuffices}
 use Rattle.model.proofs.Histories.{limits_kept}
-use Rattle.model.proofs.Judged.{Checked, checked, RefuteGoes, unjudged, full, judged, refute_goes}
+use Rattle.model.proofs.Judged.{CheckAnswers, check_answers, RefuteGoes, unjudged, full, judged, refute_goes}
 
 err_same : {X : Type 0} {d e : Refusal} → ◌≡◌ {A = Result X Refusal} (Err d) (Err e) → d ≡ e
 err_same is = cc
@@ -32,9 +32,9 @@ module _ (c : Case) (few : length c.formulas ≤ 1024) (r : Run) (f i n : ℕ) (
 
   truth_other : Other (truth c r f i n)
   unfolding truth
-  truth_other = by (check c r f i n) (checked c r f i n)
+  truth_other = by (check c r f i n) (check_answers c r f i n)
     where
-      by : (k : Result (Unit {0}) Refusal) → Checked c r f i n k → Other (once_checked c k (unchanged c (Ok (true_at c r f i))))
+      by : (k : Result (Unit {0}) Refusal) → CheckAnswers c r f i n k → Other (once_checked c k (unchanged c (Ok (true_at c r f i))))
       by (Ok done) can = ok_not_err
       by (Err e) cannot = λ is. not_short (subst (Unjudgeable c r f i n) (err_same is) cannot)
 

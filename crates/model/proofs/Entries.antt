@@ -13,7 +13,7 @@ use Rattle.lists.specs.Adding.{Distinct}
 use Rattle.formulas.specs.Entries.{kind_of, left_of, right_of, placed, Lower}
 use Rattle.formulas.specs.Decode.{of_entry, formula_at, decoded}
 use Rattle.lists.proofs.Members.{some_same, some_not_none}
-use Rattle.lists.proofs.Places.{place_only}
+use Rattle.lists.proofs.Places.{first_like_only}
 use Rattle.logic.proofs.Same.{same_tells}
 use Rattle.formulas.proofs.Likeness.{entry_by_fields}
 use Rattle.formulas.proofs.Decoded.{formula_at_is, decoded_nth, decoded_length}
@@ -25,7 +25,7 @@ use Rattle.model.specs.Limits.{Limits}
 
 -- the number of a formula that is in a list
 number_is : (fs : List Formula) → Distinct fs → (n : ℕ) (A : Formula) → Number fs n A → number_in fs A ≡ n
-number_is fs distinct n A is = ap (λ (o : Option ℕ). unwrap_or o 0) (place_only same same_tells fs A distinct n is)
+number_is fs distinct n A is = ap (λ (o : Option ℕ). unwrap_or o 0) (first_like_only same same_tells fs A distinct n is)
 
 -- ---- what the list of entries answers
 

@@ -33,19 +33,19 @@ entered_number fs f f_in = slice_get-get_or fs f falsum f_in
 
 module _ (c : Case) (r : Run) (f i : ℕ) where
   -- what the shared checks answer
-  abbrev pub Checked : ℕ → Result (Unit {0}) Refusal → Type 0
-  Checked words (Ok done) = Judgeable c r f i words
-  Checked words (Err e) = Unjudgeable c r f i words e
+  abbrev pub CheckAnswers : ℕ → Result (Unit {0}) Refusal → Type 0
+  CheckAnswers words (Ok done) = Judgeable c r f i words
+  CheckAnswers words (Err e) = Unjudgeable c r f i words e
 
-  pub checked : (words : ℕ) → Checked words (check c r f i words)
-  checked words =
-      cond_both (Dec.leb (length c.formulas) f) _ _ (Checked words) (λ t. formula_unknown (leb-true (length c.formulas) f t)) (λ e.
+  pub check_answers : (words : ℕ) → CheckAnswers words (check c r f i words)
+  check_answers words =
+      cond_both (Dec.leb (length c.formulas) f) _ _ (CheckAnswers words) (λ t. formula_unknown (leb-true (length c.formulas) f t)) (λ e.
       let entered = leb-false (length c.formulas) f e in
-      cond_both (Dec.ltb 256 (r.stem + r.loop)) _ _ (Checked words) (λ t. run_too_long entered (ltb-true 256 (r.stem + r.loop) t)) (λ g.
+      cond_both (Dec.ltb 256 (r.stem + r.loop)) _ _ (CheckAnswers words) (λ t. run_too_long entered (ltb-true 256 (r.stem + r.loop) t)) (λ g.
       let short = ltb-false 256 (r.stem + r.loop) g in
-      cond_both (Dec.leb (r.stem + r.loop) i) _ _ (Checked words) (λ t. past_run entered short (leb-true (r.stem + r.loop) i t)) (λ h.
+      cond_both (Dec.leb (r.stem + r.loop) i) _ _ (CheckAnswers words) (λ t. past_run entered short (leb-true (r.stem + r.loop) i t)) (λ h.
       let within = leb-false (r.stem + r.loop) i h in
-      cond_both (Dec.ltb words (4 * length c.formulas)) (Err ScratchTooShort) (Ok tt) (Checked words)
+      cond_both (Dec.ltb words (4 * length c.formulas)) (Err ScratchTooShort) (Ok tt) (CheckAnswers words)
       (λ t. scratch_too_short entered short within (ltb-true words (4 * length c.formulas) t))
       (λ k. record { entered = entered; short = short; within = within; room = ltb-false words (4 * length c.formulas) k }))))
 
@@ -55,14 +55,14 @@ module _ (c : Case) (r : Run) (f i : ℕ) where
     telling judgeable true is = told_true judgeable (numbered c.formulas f) (entered_number c.formulas f judgeable.entered) ((decides r (numbered c.formulas f) i).0 is)
     telling judgeable false is = told_false judgeable (numbered c.formulas f) (entered_number c.formulas f judgeable.entered) (fails r (numbered c.formulas f) i is)
 
-    truth_by : (k : Result (Unit {0}) Refusal) → Checked (length words) k
+    truth_by : (k : Result (Unit {0}) Refusal) → CheckAnswers (length words) k
         → TruthEnds c r f i words (once_checked c k (unchanged c (Ok (true_at c r f i)))) (words_once_checked words k (with_rows r c.formulas words))
     truth_by (Ok done) judgeable = telling judgeable (true_at c r f i) refl
     truth_by (Err e) unjudgeable = not_told e unjudgeable
 
 pub truth_exact : TruthExact
 unfolding truth truth_scratch
-truth_exact c r f i words = truth_by c r f i words (check c r f i (length words)) (checked c r f i (length words))
+truth_exact c r f i words = truth_by c r f i words (check c r f i (length words)) (check_answers c r f i (length words))
 
 module _ (c : Case) (r : Run) (f i n : ℕ) where
   -- refute by its checks in their order, and what it leaves of the scratch words: a check refuses it, 64 refutations are held, or it is judged
@@ -79,13 +79,13 @@ module _ (c : Case) (r : Run) (f i n : ℕ) where
   by_room can true most = full can (leb-true 64 (length c.refutations) most)
   by_room can false few = judged can (leb-false 64 (length c.refutations) few) (judge c r f i) refl
 
-  by_check : (k : Result (Unit {0}) Refusal) → Checked c r f i n k → Goes k
+  by_check : (k : Result (Unit {0}) Refusal) → CheckAnswers c r f i n k → Goes k
   by_check (Ok done) can = by_room can (Dec.leb 64 (length c.refutations)) refl
   by_check (Err e) cannot = unjudged e cannot
 
   pub refute_goes : RefuteGoes (refute c r f i n) (λ words. words_once_checked words (check c r f i n) (words_with_room c r words))
   unfolding refute
-  refute_goes = by_check (check c r f i n) (checked c r f i n)
+  refute_goes = by_check (check c r f i n) (check_answers c r f i n)
 
 module _ (c : Case) (entered : AssumptionsEntered c.formulas c.assumptions) (r : Run) where
   -- what the assumption at a place says, by its number and by its formula

@@ -12,11 +12,11 @@ use Rattle.model.specs.Case.{Case}
 use Rattle.model.specs.Calls.{Outcome}
 use Rattle.model.specs.Judging.{check, true_at, refute_scratch}
 use Rattle.model.specs.Outcomes.{Judgeable}
-use Rattle.model.proofs.Judged.{Checked, checked, RefuteGoes, unjudged, full, judged, refute_goes}
+use Rattle.model.proofs.Judged.{CheckAnswers, check_answers, RefuteGoes, unjudged, full, judged, refute_goes}
 
 -- where the checks pass, a formula can be judged
 pub judgeable : (c : Case) (r : Run) (f i n : ℕ) → check c r f i n ≡ Ok tt → Judgeable c r f i n
-judgeable c r f i n is = subst (Checked c r f i n) is (checked c r f i n)
+judgeable c r f i n is = subst (CheckAnswers c r f i n) is (check_answers c r f i n)
 
 module _ (c : Case) (r : Run) (f i : ℕ) (words : List ℕ) (can : Judgeable c r f i (length words)) where
   -- there is room for the rows

@@ -3,7 +3,7 @@ use Rattle.std.specs.Prelude.{ℕ, if◌then◌else◌, length, Err, Result, nat
 use Rattle.refusals.specs.declared.Refusal.{Refusal}
 use Rattle.refusals.specs.Numbers.{by_form}
 use Rattle.refusals.specs.declared.Refusal.TheVariants.{NotEntered, AssumptionsFull}
-use Rattle.lists.specs.Adding.{place, add_answer, add_after}
+use Rattle.lists.specs.Adding.{first_like, add_answer, add_after}
 use Rattle.formulas.specs.Forming.{form_answer, form_after}
 use Rattle.model.specs.Case.{Case}
 
@@ -28,6 +28,6 @@ unfoldable pub assume : Case → ℕ → Outcome ℕ
 assume c f =
     if nat_le (length c.formulas) f then unchanged c (Err NotEntered)
     else record {
-      answer = add_answer 16 AssumptionsFull c.assumptions (place nat_eq c.assumptions f);
-      after = record c { assumptions = add_after 16 c.assumptions f (place nat_eq c.assumptions f) };
+      answer = add_answer 16 AssumptionsFull c.assumptions (first_like nat_eq c.assumptions f);
+      after = record c { assumptions = add_after 16 c.assumptions f (first_like nat_eq c.assumptions f) };
     }

@@ -7,7 +7,7 @@ use Rattle.logic.specs.Formula.{Formula}
 use Rattle.calculus.specs.declared.verdict.Verdict.{Verdict}
 use Rattle.calculus.specs.declared.verdict.Verdict.TheVariants.{Admitted, NotAdmitted, BeyondLimit}
 use Rattle.calculus.specs.Pages.{Page}
-use Rattle.lists.specs.Adding.{place}
+use Rattle.lists.specs.Adding.{first_like}
 use Rattle.formulas.specs.Forming.{numbered}
 use Rattle.model.specs.declared.line.Line.{Line}
 use Rattle.model.specs.Case.{Case}
@@ -26,7 +26,7 @@ premise c (Some k) = option_map (λ l. numbered c.formulas l.formula) (slice_get
 -- rule 0 is the case's own: it admits an assumption, with both places empty
 abbrev pub assumption_verdict : Case → Line → Verdict
 assumption_verdict c l =
-    if is_none l.first && (is_none l.second && is_some (place nat_eq c.assumptions l.formula)) then Admitted
+    if is_none l.first && (is_none l.second && is_some (first_like nat_eq c.assumptions l.formula)) then Admitted
     else NotAdmitted
 
 -- every other rule is the page's

@@ -8,7 +8,7 @@ use Rattle.logic.specs.Formula.{Formula, falsum, atom, implies, next, always}
 use Rattle.logic.specs.Same.{same}
 use Rattle.formulas.specs.declared.entry.Entry.{Entry}
 use Rattle.formulas.specs.declared.entry.Entry.TheVariants.{False, Atom, Implies, Next, Always}
-use Rattle.lists.specs.Adding.{place}
+use Rattle.lists.specs.Adding.{first_like}
 use Rattle.model.specs.declared.counts.Counts.{Counts}
 use Rattle.model.specs.declared.line.Line.{Line}
 use Rattle.model.specs.declared.refutation.Refutation.{Refutation}
@@ -27,7 +27,7 @@ counts_of c = record {
 
 -- the number of a formula that is in a list
 abbrev pub number_in : List Formula → Formula → ℕ
-number_in fs A = unwrap_or (place same fs A) 0
+number_in fs A = unwrap_or (first_like same fs A) 0
 
 -- a formula as an entry, its operands by their numbers
 abbrev pub as_entry : List Formula → Formula → Entry

@@ -21,7 +21,7 @@ impl RunSource for Supply {
         1
     }
 
-    #[tactic(auto, using(runs::proofs::Told::told_tested, std::proofs::lemmas::Bool::Decides::nat_tests))]
+    #[tactic(auto, using(runs::proofs::SourceSays::source_says_tested, std::proofs::lemmas::Bool::Decides::nat_tests))]
     fn says(&self, atom: u8, position: usize) -> bool {
         atom == 0 && position == usize::from(self.first)
     }

@@ -2,7 +2,7 @@
 use Rattle.std.proofs.Common.{ℕ, Bool, false, List, Some, None, Option}
 use Rattle.logic.specs.Formula.{Formula}
 use Rattle.logic.specs.Same.{same}
-use Rattle.lists.specs.Adding.{place}
+use Rattle.lists.specs.Adding.{first_like}
 use Rattle.rows.specs.Row.{testBit}
 
 -- the bit at a place, if there is one
@@ -12,4 +12,4 @@ bit_if v (Some k) = testBit v k
 
 -- of the formulas of a list, the k-th is true where bit k of the number is set; others are false
 abbrev pub chosen : List Formula → ℕ → Formula → Bool
-chosen ps v P = bit_if v (place same ps P)
+chosen ps v P = bit_if v (first_like same ps P)

@@ -5,5 +5,5 @@ mod Choices
 mod Filling
 mod Passing
 mod Plans
-mod Told
+mod PlanTruths
 mod Verdicts

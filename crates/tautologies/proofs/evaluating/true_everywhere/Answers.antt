@@ -5,7 +5,7 @@ use Rattle.calculus.specs.Tautology.{Tautology}
 use Rattle.tautologies.specs.declared.step.Step.{Step}
 use Rattle.tautologies.specs.Planning.{Planned, Values, place_of}
 use Rattle.tautologies.proofs.Filling.{any_default}
-use Rattle.tautologies.proofs.Told.{judged}
+use Rattle.tautologies.proofs.PlanTruths.{judged}
 use Rattle.tautologies.proofs.evaluating.true_everywhere.Goals as goal
 use Rattle.tautologies.proofs.evaluating.true_everywhere.Goals.{After-from-place}
 

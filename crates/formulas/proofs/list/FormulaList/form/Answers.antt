@@ -6,10 +6,10 @@ use Rattle.formulas.specs.declared.refusal.FormRefusal.{FormRefusal}
 use Rattle.formulas.specs.declared.refusal.FormRefusal.TheVariants.{FormulasFull}
 use Rattle.formulas.specs.declared.entry.Entry.{Entry}
 use Rattle.formulas.specs.declared.list.FormulaList.{FormulaList}
-use Rattle.lists.specs.Adding.{place, place_from, number_for, add_after}
+use Rattle.lists.specs.Adding.{first_like, first_like_from, number_for, add_after}
 use Rattle.formulas.specs.Entries.{placed, asked}
 use Rattle.formulas.proofs.Asked.{asked_fine}
-use Rattle.lists.proofs.Places.{place_none, place_from_is}
+use Rattle.lists.proofs.Places.{first_like_none, first_like_from_is}
 use Rattle.lists.proofs.Members.{some_same, nth_within}
 use Rattle.std.proofs.lemmas.List.{get_or-take, length-take}
 use Rattle.std.proofs.lemmas.Option.{slice_get-get_or}
@@ -37,7 +37,7 @@ returns-in_err-entry c =
     record { answer = p.1 ∙ f.answer; after = f.after; entries = f.entries; distinct = f.distinct }
 
 -- no number below the lowest one is the entry's, so it is found as if all were looked at
-found : (c : After-enter_from) → place_from entry_eq c.lowest.result (entries_of c.args.self.now) c.in_ok-entry.entry ≡ place entry_eq (entries_of c.args.self.now) c.in_ok-entry.entry
+found : (c : After-enter_from) → first_like_from entry_eq c.lowest.result (entries_of c.args.self.now) c.in_ok-entry.entry ≡ first_like entry_eq (entries_of c.args.self.now) c.in_ok-entry.entry
 found c =
     let s = c.args.self.now in
     let e = c.in_ok-entry.entry in
@@ -54,7 +54,7 @@ found c =
     let below : k < c.lowest.result = omega (arith, nth_within (take c.lowest.result es) k at, length-take c.lowest.result es) in
     let here : get_or es k False ≡ e = sym (get_or-take c.lowest.result es k False below) ∙ some_same (sym (slice_get-get_or (take c.lowest.result es) k False (nth_within (take c.lowest.result es) k at)) ∙ at) in
     true≢false (sym (s.lower k (omega (arith, below, there))) ∙ ap (placed k) here ∙ c.lowest.ensures k below) in
-    place_from_is entry_eq es c.lowest.result e there (place_none entry_eq entry_tells (take c.lowest.result es) e passed)
+    first_like_from_is entry_eq es c.lowest.result e there (first_like_none entry_eq entry_tells (take c.lowest.result es) e passed)
 
 -- what it leaves, where an entry is asked for
 entered : (c : After-enter_from) → Formed (entries_of c.args.self.now) c.enter_from.new.self c.args.kind c.args.left c.args.right (ok_or c.enter_from.result FormulasFull)
@@ -62,9 +62,9 @@ entered c =
     let s = c.args.self.now in
     let e = c.in_ok-entry.entry in
     let is = at_length s _ c.args.kind c.args.left c.args.right (c.len.ensures ∙ decoded_length _) c.asked_for.ensures c.in_ok-entry.was in
-    let f = formed (entries_of s) s.lower s.distinct c.args.kind c.args.left c.args.right e is (place entry_eq (entries_of s) e) refl in
+    let f = formed (entries_of s) s.lower s.distinct c.args.kind c.args.left c.args.right e is (first_like entry_eq (entries_of s) e) refl in
     subst (λ (o : Option ℕ). Formed (entries_of s) c.enter_from.new.self c.args.kind c.args.left c.args.right (ok_or o FormulasFull)) (sym (c.enter_from.ensures.number ∙ ap (number_for 1024 (entries_of s)) (found c)))
-    (subst (λ (es : List Entry). Formed (entries_of s) es c.args.kind c.args.left c.args.right (ok_or (number_for 1024 (entries_of s) (place entry_eq (entries_of s) e)) FormulasFull)) (sym (c.enter_from.ensures.after ∙ ap (add_after 1024 (entries_of s) e) (found c))) f)
+    (subst (λ (es : List Entry). Formed (entries_of s) es c.args.kind c.args.left c.args.right (ok_or (number_for 1024 (entries_of s) (first_like entry_eq (entries_of s) e)) FormulasFull)) (sym (c.enter_from.ensures.after ∙ ap (add_after 1024 (entries_of s) e) (found c))) f)
 
 pub invariant_of-self : goal.invariant_of-self
 invariant_of-self c =

@@ -10,12 +10,12 @@ use Rattle.logic.specs.Formula.{Formula, falsum, atom, next, always}
 use Rattle.logic.specs.Same.{same}
 use Rattle.formulas.specs.declared.entry.Entry.{Entry}
 use Rattle.formulas.specs.declared.entry.Entry.TheVariants.{False, Atom, Implies, Next, Always}
-use Rattle.lists.specs.Adding.{Distinct, place}
+use Rattle.lists.specs.Adding.{Distinct, first_like}
 use Rattle.formulas.specs.Decode.{formula_at}
 use Rattle.formulas.proofs.Decoded.{formula_injective}
 use Rattle.logic.proofs.Same.{same_tells}
 use Rattle.lists.proofs.Members.{nth_within, some_same}
-use Rattle.lists.proofs.Places.{place_only}
+use Rattle.lists.proofs.Places.{first_like_only}
 use Rattle.rows.specs.Row.{pack}
 use Rattle.rows.proofs.Bits.{bit_pack, pack_lt}
 use Rattle.calculus.specs.Tautology.{eval, Tautology}
@@ -43,7 +43,7 @@ module _ (es : List Entry) (entered : Entered es) (seen : List Bool) (parts : Li
       let is = g.gathered n m X p in
       let within = nth_within ps is.0 is.1 in
       let here : get_or ps is.0 falsum ≡ X = some_same (sym (slice_get-get_or ps is.0 falsum within) ∙ is.1) in
-      sym (ap (bit_if v) (place_only same same_tells ps X formulas_once is.0 is.1) ∙ bit_pack (length parts) f is.0 (omega (arith, length-map parts (formula_at es))) ∙ ap w here))
+      sym (ap (bit_if v) (first_like_only same same_tells ps X formulas_once is.0 is.1) ∙ bit_pack (length parts) f is.0 (omega (arith, length-map parts (formula_at es))) ∙ ap w here))
       ∙ numbered v (pack_lt (length parts) f)
 
   module _ (steps : List Step) (places : List ℕ) (plan : Planned es seen parts steps places) where
@@ -60,7 +60,7 @@ module _ (es : List Entry) (entered : Entered es) (seen : List Bool) (parts : Li
           let one : part.0 ≡ n =
           formula_injective es entered.lower entered.distinct part.0 n (g.entered part.0 (g.met has.0 part.0 part.1).0) (g.entered n m) (part.2 ∙ sym is) in
           let at : slice_get parts has.0 ≡ Some n = subst (λ (k : ℕ). slice_get parts has.0 ≡ Some k) one part.1 in
-          let stands_at : place same ps A ≡ Some has.0 = place_only same same_tells ps A formulas_once has.0 has.1 in
+          let stands_at : first_like same ps A ≡ Some has.0 = first_like_only same same_tells ps A formulas_once has.0 has.1 in
           ap f (plan.part_at has.0 n at simple)
           ∙ values.part has.0 (omega (arith, nth_within parts has.0 at))
           ∙ sym (stands (chosen ps c) ∙ ap (bit_if c) stands_at)
