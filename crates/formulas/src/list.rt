@@ -4,8 +4,8 @@ ghost use Rattle.lists.specs.Adding.{Distinct};
 ghost use Rattle.formulas.specs.Entries.{Lower};
 
 use crate::entry::Entry;
-use lists::Table;
 use crate::refusal::FormRefusal;
+use lists::Table;
 use std::alloc::{AllocError, Global};
 
 /// The most formulas that a list holds.

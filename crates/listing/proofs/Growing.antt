@@ -8,7 +8,7 @@ use Rattle.model.specs.declared.standing.Standing.{Standing}
 use Rattle.model.specs.declared.standing.Standing.TheVariants.{Open}
 use Rattle.listing.specs.Standings.{AreStandings}
 use Rattle.model.specs.Case.{Case}
-use Rattle.model.specs.Reads.{standing_by, first_line, first_refutation_of, standing_in}
+use Rattle.model.specs.Reads.{standing_in}
 use Rattle.listing.specs.Listing.{line_of_standing, standing_lines_to}
 
 -- the line of one formula more

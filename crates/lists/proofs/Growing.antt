@@ -3,7 +3,7 @@ use Rattle.std.proofs.Common.{◌≡◌, ℕ, ◌<◌, ◌≤◌, ◌⊎◌, Lis
 use Rattle.std.specs.List.{slice_get}
 use Rattle.std.proofs.lemmas.List.{length_push}
 use Rattle.lists.specs.Adding.{Distinct}
-use Rattle.lists.proofs.Members.{nth_push, nth_pushed, nth_stays, distinct_push}
+use Rattle.lists.proofs.Members.{nth_pushed, nth_stays, distinct_push}
 
 -- P says which member may be new, and by which number
 pub data Grown {X : Type 0} (P : ℕ → X → Type 0) (xs : List X) : List X → Type 0 where

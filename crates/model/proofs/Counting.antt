@@ -10,8 +10,7 @@ counts_tell s h n = (
   counted (formulas_exactly s h) n,
   counted (assumptions_exactly s h) n,
   counted (lines_exactly s h) n,
-  let refutations = counted (refutations_exactly s h) n in
-  (
+  let refutations = counted (refutations_exactly s h) n in (
     λ within. let p = refutations.0 within in (p.0.formula, p.0.position, p.1.0, p.1.1),
     λ p. refutations.1 (record { formula = p.0; position = p.1 }, (p.2, p.3)),
   ),

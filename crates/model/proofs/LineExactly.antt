@@ -5,7 +5,6 @@ use Rattle.std.proofs.lemmas.Bool.{cond_both, cond-true, cond-false, lt-ltb, and
 use Rattle.logic.specs.Formula.{Formula}
 use Rattle.calculus.specs.declared.verdict.Verdict.{Verdict}
 use Rattle.calculus.specs.declared.verdict.Verdict.TheVariants.{Admitted}
-use Rattle.calculus.specs.Rules.{Gives}
 use Rattle.calculus.specs.Pages.{Verdicts, Page}
 use Rattle.calculus.specs.Published.{published}
 use Rattle.calculus.proofs.Exact.{published_exact, published_numbers}

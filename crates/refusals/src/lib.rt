@@ -5,7 +5,6 @@ ghost use Rattle.std.specs.Prelude.{◌≡◌};
 ghost use Rattle.refusals.specs.Numbers.{number_of};
 
 pub use formulas::FormRefusal;
-
 use thiserror::Error;
 
 /// Why a call on a case is refused. Each has the number that a caller is told.

@@ -1,9 +1,9 @@
 // What rows say along a run. Formulas 0 to 3 are v0, ○v0, □v0 and v0 → □v0; v0 is true at position 0 and never again.
 use crate::samples::ONCE;
 use formulas::FormulaList;
+use row_writer::{first_false, truth_at, write_rows};
 use runs::TableRun;
 use std::test::Fail;
-use row_writer::{first_false, truth_at, write_rows};
 
 #[test]
 fn rows_say_what_holds(rt: HostRuntime) -> Result<(), Fail> {

@@ -41,12 +41,27 @@ fn forms_are_refused_in_order(rt: HostRuntime) -> Result<(), Fail> {
         top = case.form(3, top, 0)?;
     }
     assert_eq!(rt; top, 1023);
-    assert_eq!(rt; case.form(5, 9999, 9999), Err(Refusal::Form(FormRefusal::UnknownKind)));
-    assert_eq!(rt; case.form(2, 1024, 0), Err(Refusal::Form(FormRefusal::BadField)));
-    assert_eq!(rt; case.form(1, 32, 0), Err(Refusal::Form(FormRefusal::BadField)));
-    assert_eq!(rt; case.form(0, 0, 1), Err(Refusal::Form(FormRefusal::BadField)));
+    assert_eq!(rt;
+        case.form(5, 9999, 9999),
+        Err(Refusal::Form(FormRefusal::UnknownKind))
+    );
+    assert_eq!(rt;
+        case.form(2, 1024, 0),
+        Err(Refusal::Form(FormRefusal::BadField))
+    );
+    assert_eq!(rt;
+        case.form(1, 32, 0),
+        Err(Refusal::Form(FormRefusal::BadField))
+    );
+    assert_eq!(rt;
+        case.form(0, 0, 1),
+        Err(Refusal::Form(FormRefusal::BadField))
+    );
     assert_eq!(rt; case.form(3, 5, 0), Ok(6));
-    assert_eq!(rt; case.form(1, 31, 0), Err(Refusal::Form(FormRefusal::FormulasFull)));
+    assert_eq!(rt;
+        case.form(1, 31, 0),
+        Err(Refusal::Form(FormRefusal::FormulasFull))
+    );
     assert_eq!(rt; case.counts().formulas, 1024);
     Ok(())
 }
@@ -63,7 +78,10 @@ fn old_forms_answer_in_a_full_list(rt: HostRuntime) -> Result<(), Fail> {
         top = case.form(4, top, 0)?;
     }
     assert_eq!(rt; case.form(2, 0, 0), Ok(3));
-    assert_eq!(rt; case.form(2, 1, 1), Err(Refusal::Form(FormRefusal::FormulasFull)));
+    assert_eq!(rt;
+        case.form(2, 1, 1),
+        Err(Refusal::Form(FormRefusal::FormulasFull))
+    );
     Ok(())
 }
 

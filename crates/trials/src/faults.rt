@@ -48,7 +48,10 @@ fn atoms(heap: Global) -> Result<SealedCase, Fail> {
 // The second assumption is false at position 2 first; the record, whose head is at 13, asks for position 3.
 fn second_at_2() -> Fault {
     Fault {
-        cause: Cause::Case(Refusal::AssumptionFalse { place: 1, position: 2 }),
+        cause: Cause::Case(Refusal::AssumptionFalse {
+            place: 1,
+            position: 2,
+        }),
         offset: 13,
     }
 }

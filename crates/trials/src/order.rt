@@ -63,7 +63,10 @@ fn assumptions_are_judged_first(rt: HostRuntime) -> Result<(), Fail> {
     let mut case = carry(rt.alloc())?;
     assert_eq!(rt;
         case.refute(&TableRun::new(&ONCE), 3, 0, &mut [0; 24]),
-        Err(Refusal::AssumptionFalse { place: 0, position: 0 })
+        Err(Refusal::AssumptionFalse {
+            place: 0,
+            position: 0
+        })
     );
     assert_eq!(rt;
         case.refute(&TableRun::new(&NOTHING), 3, 0, &mut [0; 24]),

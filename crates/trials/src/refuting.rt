@@ -31,7 +31,10 @@ fn runs_keep_the_assumptions(rt: HostRuntime) -> Result<(), Fail> {
     assert_eq!(rt; case.truth(&run, 5, 0, &mut scratch), Ok(false));
     assert_eq!(rt;
         case.refute(&run, 5, 0, &mut scratch),
-        Err(Refusal::AssumptionFalse { place: 0, position: 0 })
+        Err(Refusal::AssumptionFalse {
+            place: 0,
+            position: 0
+        })
     );
     assert_eq!(rt; case.counts().refutations, 0);
     Ok(())
@@ -46,7 +49,10 @@ fn runs_keep_the_assumptions_before_the_position(rt: HostRuntime) -> Result<(), 
     assert_eq!(rt; case.truth(&run, 2, 1, &mut scratch), Ok(true));
     assert_eq!(rt;
         case.refute(&run, 0, 1, &mut scratch),
-        Err(Refusal::AssumptionFalse { place: 0, position: 0 })
+        Err(Refusal::AssumptionFalse {
+            place: 0,
+            position: 0
+        })
     );
     Ok(())
 }
@@ -88,7 +94,10 @@ fn first_false_assumptions_are_told(rt: HostRuntime) -> Result<(), Fail> {
     let bytes = all_but(heap, 100, 100, 150)?;
     assert_eq!(rt;
         case.refute(&TableRun::new(&bytes), 1, 0, &mut [0; 12]),
-        Err(Refusal::AssumptionFalse { place: 1, position: 150 })
+        Err(Refusal::AssumptionFalse {
+            place: 1,
+            position: 150
+        })
     );
     Ok(())
 }

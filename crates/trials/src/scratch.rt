@@ -98,7 +98,10 @@ fn late_refusals_write_the_scratch(rt: HostRuntime) -> Result<(), Fail> {
     let mut scratch = [7; 25];
     assert_eq!(rt;
         case.refute(&TableRun::new(&ONCE), 5, 0, &mut scratch),
-        Err(Refusal::AssumptionFalse { place: 0, position: 0 })
+        Err(Refusal::AssumptionFalse {
+            place: 0,
+            position: 0
+        })
     );
     assert!(rt; scratch == ONCE_ROWS);
     assert_eq!(rt;

@@ -34,7 +34,10 @@ fn refused_formulas_stay_open(rt: HostRuntime) -> Result<(), Fail> {
     let mut scratch = [0; 24];
     assert_eq!(rt;
         case.refute(&TableRun::new(&ONCE), 5, 0, &mut scratch),
-        Err(Refusal::AssumptionFalse { place: 0, position: 0 })
+        Err(Refusal::AssumptionFalse {
+            place: 0,
+            position: 0
+        })
     );
     assert_eq!(rt; case.standing(5), Ok(Standing::Open));
     assert_eq!(rt;

@@ -5,9 +5,9 @@ use crate::case::Case;
 use crate::stage::{Sealed, Stage};
 use model::Refutation;
 use refusals::Refusal;
+use row_writer::{first_false, truth_at, write_rows};
 use rows::{POSITIONS, WORDS};
 use runs::RunSource;
-use row_writer::{first_false, truth_at, write_rows};
 
 impl<S: Stage> Case<S> {
     ghost use Rattle.std.specs.Prelude.{◌≡◌, length, Ok};

@@ -1,5 +1,5 @@
 -- Entering a formula is what `form` says of the model, and leaves what is known of assumptions, lines and refutations.
-use Rattle.std.proofs.Common.{◌<◌, Err, length, sym, ap, ◌∙◌, subst, arith}
+use Rattle.std.proofs.Common.{Err, length, sym, ap, ◌∙◌, subst, arith}
 use Rattle.std.proofs.lemmas.Result.{err_from_is_err_and}
 use Rattle.formulas.specs.Listed.{formulas_of}
 use Rattle.formulas.proofs.Forming.{form_longer}
