@@ -18,10 +18,6 @@ same_premise_true None None e = refl
 same_premise_true (Some X) (Some Y) e = ap Some (same_true X Y e)
 same_premise_true P Q e = absurd (false≢true e)
 
-same_premise_refl : (P : Option Formula) → same_premise P P ≡ true
-same_premise_refl None = refl
-same_premise_refl (Some X) = same_refl X
-
 pub of_filled : {s : ℕ → Formula} {h : RuleSchema} {X : Formula} {P Q : Option Formula} (R : Formula → Option Formula → Option Formula → Type 0)
     → Filled s h X P Q → R (filled s h.conclusion) (option_map (filled s) h.first) (option_map (filled s) h.second) → R X P Q
 of_filled {s} {h} {X} {P} {Q} R f r =

@@ -43,7 +43,7 @@ abbrev pub premise_part : ℕ → Option Formula → Option Formula → Option F
 premise_part a (Some Y) (Some X) = part_at a Y X
 premise_part a Y P = None
 
--- what stands for each letter of a schema in a conclusion and its premises; falsum for one that the schema does not have
+-- what stands for each letter of a schema in a conclusion and its premises; falsum where nothing does
 abbrev pub letters_of : RuleSchema → Formula → Option Formula → Option Formula → ℕ → Formula
 letters_of h X P Q a =
     unwrap_or (option_or (part_at a h.conclusion X) (option_or (premise_part a h.first P) (premise_part a h.second Q))) falsum

@@ -76,11 +76,9 @@ front c bytes = read front_part c tt 0 (records_from bytes 0)
 
 -- the scratch words after a call
 abbrev pub scratch_after : {s : Stage} → cases.Case → Call s → List ℕ → List ℕ
-scratch_after c (form kind left right) words = words
-scratch_after c (assume f) words = words
 scratch_after c (truth r f i n) words = judging.truth_scratch c r f i words
-scratch_after c (line page l) words = words
 scratch_after c (refute r f i n) words = judging.refute_scratch c r f i words
+scratch_after c x words = words
 
 -- what the body carries beside the case
 pub record Carried : Type 0 where

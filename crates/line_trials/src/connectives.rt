@@ -45,7 +45,7 @@ pub(crate) fn eventually<S: Stage>(case: &mut Case<S>, a: u16) -> Result<u16, Fa
     not(case, never)
 }
 
-// v0 → (v1 → … → v0), with so many atoms, of which there are 32.
+// v0 → (v1 → … → v0), with a number of atoms, of which there are 32.
 pub(crate) fn atoms_chained<S: Stage>(case: &mut Case<S>, atoms: u16) -> Result<u16, Fail> {
     let mut formula = atom(case, 0)?;
     for number in (0..atoms).rev() {

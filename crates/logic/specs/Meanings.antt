@@ -1,4 +1,4 @@
--- What an implication and the abbreviations come to.
+-- What an implication and the abbreviations mean.
 use Rattle.std.specs.Prelude.{ℕ, ◌≤◌, ◌⊎◌, ◌↔◌}
 use Rattle.logic.specs.Formula.{Formula, implies}
 use Rattle.logic.specs.Abbreviations.{not, or, and, iff, eventually}

@@ -1,7 +1,7 @@
 -- Looped runs.
 use Rattle.std.specs.Prelude.{◌≡◌, ℕ, ◌+◌, ◌<◌, ◌≤◌, Bool}
 
--- says a i is the truth of atom a at position i; behind the stem, positions that lie one loop apart agree on every atom
+-- says a i is the truth of atom a at position i; after the stem, positions that lie one loop apart agree on every atom
 pub record Run : Type 0 where
   pub stem : ℕ
   pub loop : ℕ

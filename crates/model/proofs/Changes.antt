@@ -15,7 +15,6 @@ use Rattle.model.specs.Case.{Case}
 use Rattle.model.specs.Calls as calls
 use Rattle.model.specs.Calls.{Outcome, unchanged}
 use Rattle.model.specs.Lines as lines
-use Rattle.model.specs.Lines.{place_held}
 use Rattle.model.specs.Judging as judging
 use Rattle.model.specs.Judging.{once_checked, true_at}
 use Rattle.model.specs.Describes.{Number, Describes}

@@ -17,7 +17,7 @@ use Rattle.records.specs.declared.fault.PayloadFault.TheVariants.{WrongLength}
 use Rattle.records.specs.declared.payload.Form as declared
 use Rattle.records.specs.declared.front_record.FrontRecord.{FrontRecord}
 use Rattle.records.specs.declared.front_record.FrontRecord.TheVariants.{FormRecord}
-use Rattle.records.specs.Payloads.{long, form_in, place_of, Request, form_request, line_written, refutation_in, passed, refute_request, refute_in}
+use Rattle.records.specs.Payloads.{long, form_in, place_of, Request, form_request, line_written, refutation_written, passed, refute_request, refute_in}
 use Rattle.records.specs.WrittenRecords.{two_bytes}
 use Rattle.records.proofs.TwoBytes.{byte_at, next_two, word_fits, last_two, four_bytes}
 use Rattle.records.specs.Asking.{Asked, front_call, body_call, front_asked, body_asked, FormAsks, form_asked, form_length, FrontAsks, front_form, front_assume, front_seal, front_kind_not_allowed, front_assume_length, front_seal_length, PlaceField, empty_place, place_of_line, RefutationAsks, refutation_asked, numbers_cut, run_length_wrong, run_numbers_wrong, BodyAsks, body_form, body_line, body_table, body_pulses, body_kind_not_allowed, body_line_length, RecordsAsk}
@@ -117,7 +117,7 @@ module _ (page : Page) (n : ℕ) where
   module _ (check : List ℕ → Result (Unit {0}) RunFault) (run : List ℕ → Run) where
     module _ (payload : List ℕ) (bytes : Bytes payload) where
       refutation_by : 4 ≤ length payload → (q : Result (Unit {0}) RunFault) → check (drop 4 payload) ≡ q
-          → RefutationAsks check run n (two_bytes (word payload 0) ++ (two_bytes (word payload 2) ++ drop 4 payload)) (answer_for (passed q (refute_request (refutation_in payload) (run (drop 4 payload)))))
+          → RefutationAsks check run n (two_bytes (word payload 0) ++ (two_bytes (word payload 2) ++ drop 4 payload)) (answer_for (passed q (refute_request (refutation_written payload) (run (drop 4 payload)))))
       refutation_by long (Ok done) is = refutation_asked _ _ _ (word_fits payload bytes 0 (omega arith)) (word_fits payload bytes 2 (omega arith)) is
       refutation_by long (Err RunLength) is = run_length_wrong _ _ _ (word_fits payload bytes 0 (omega arith)) (word_fits payload bytes 2 (omega arith)) is
       refutation_by long (Err RunNumbers) is = run_numbers_wrong _ _ _ (word_fits payload bytes 0 (omega arith)) (word_fits payload bytes 2 (omega arith)) is
@@ -128,7 +128,7 @@ module _ (page : Page) (n : ℕ) where
           (λ short. numbers_cut (ltb-true (length payload) 4 short))
           (λ room.
           let long = ltb-false (length payload) 4 room in
-          subst (λ (p : List ℕ). RefutationAsks check run n p (answer_for (passed (check (drop 4 payload)) (refute_request (refutation_in payload) (run (drop 4 payload))))))
+          subst (λ (p : List ℕ). RefutationAsks check run n p (answer_for (passed (check (drop 4 payload)) (refute_request (refutation_written payload) (run (drop 4 payload))))))
           (sym (four_bytes payload bytes long)) (refutation_by long (check (drop 4 payload)) refl))
 
     -- after the two numbers, the run's check decides
@@ -138,7 +138,7 @@ module _ (page : Page) (n : ℕ) where
         let payload = two_bytes f ++ (two_bytes i ++ bytes) in
         ap answer_for (
         cond-false _ _ _ (le-ltb (length payload) 4 (omega arith))
-        ∙ ap (λ x. passed x (refute_request (refutation_in payload) (run bytes))) is
+        ∙ ap (λ x. passed x (refute_request (refutation_written payload) (run bytes))) is
         ∙ ap₂ (λ (g j : ℕ). passed q (refute_request (record { formula = g; position = j }) (run bytes))) (mod-add-div f 256) (mod-add-div i 256))
 
     refutation_found : {payload : List ℕ} {asked : Asked sealed_stage} → RefutationAsks check run n payload asked → answer_for (refute_in check run payload) ≡ asked

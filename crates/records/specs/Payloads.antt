@@ -58,8 +58,8 @@ abbrev pub line_written : List ℕ → model.Line
 line_written payload = record { rule = word payload 0; formula = word payload 2; first = place_of (word payload 4); second = place_of (word payload 6) }
 
 -- the numbers of a formula and of a position in two bytes each
-abbrev pub refutation_in : List ℕ → Refutation
-refutation_in payload = record { formula = word payload 0; position = word payload 2 }
+abbrev pub refutation_written : List ℕ → Refutation
+refutation_written payload = record { formula = word payload 0; position = word payload 2 }
 
 -- an answer for a run's bytes that passed their check
 abbrev pub passed : {A : Type 0} → Result (Unit {0}) RunFault → A → Result A PayloadFault
@@ -70,7 +70,7 @@ passed (Err e) x = Err (run_fault e)
 abbrev pub refute_in : (List ℕ → Result (Unit {0}) RunFault) → (List ℕ → Run) → List ℕ → Result Request PayloadFault
 refute_in check run payload =
     if nat_lt (length payload) 4 then Err WrongLength
-    else passed (check (drop 4 payload)) (refute_request (refutation_in payload) (run (drop 4 payload)))
+    else passed (check (drop 4 payload)) (refute_request (refutation_written payload) (run (drop 4 payload)))
 
 -- in the body: 1 a formula, 4 a line, 5 a refutation by a table, 6 one by pulses
 abbrev pub record_of_body : ℕ → List ℕ → Result Request PayloadFault

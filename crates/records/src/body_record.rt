@@ -2,7 +2,7 @@
 ghost use Rattle.std.specs.Prelude.{◌≡◌};
 ghost use Rattle.runs.specs.Pulses.{pulse_check, pulse_run};
 ghost use Rattle.runs.specs.Tables.{table_check, table_run};
-ghost use Rattle.records.specs.Payloads.{refutation_in, line_written, long, place_of, record_of_body, refute_in};
+ghost use Rattle.records.specs.Payloads.{refutation_written, line_written, long, place_of, record_of_body, refute_in};
 ghost use Rattle.records.specs.Requests.{requested};
 
 use crate::fault::PayloadFault;
@@ -27,7 +27,7 @@ pub enum BodyRecord<'a> {
     PulseRecord(Refutation, PulseRun<'a>),
 }
 
-/// What a record of the body asks for. Kinds 2 and 3 and those above 6 are not allowed (23), a form record has 5 bytes and a
+/// What a record of the body asks for. Other kinds than 1, 4, 5 and 6 are not allowed (23), a form record has 5 bytes and a
 /// line record 8 (24), and a refutation 4 and a run's: these are of a wrong length (24) or give no run (26).
 impl<'a> TryFrom<Record<'a>> for BodyRecord<'a> {
     type Error = PayloadFault;
@@ -47,7 +47,7 @@ impl<'a> TryFrom<Record<'a>> for BodyRecord<'a> {
 
 // The numbers of a formula and of a position, in two bytes each.
 fn refutation(bytes: &[u8; 4]) -> Refutation
-    ensures { result ≡ refutation_in bytes.now }
+    ensures { result ≡ refutation_written bytes.now }
 {
     let [formula_low, formula_high, position_low, position_high] = *bytes;
     Refutation {

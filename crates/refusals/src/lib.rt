@@ -55,8 +55,8 @@ pub enum Refusal {
 }
 
 impl Refusal {
-    /// The number that a caller is told, 1 to 16. By a name, and no `From` or trait, so that a call says which number it is.
-    // By a match, and no numbers at the variants: two of them hold values.
+    /// The number that a caller is told, 1 to 16.
+    // by a match, and no numbers at the variants: two of them hold values
     pub fn number(self) -> u8
         ensures { result ≡ number_of self }
     {

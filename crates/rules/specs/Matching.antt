@@ -9,16 +9,16 @@ use Rattle.calculus.specs.Schemas.{RuleSchema}
 use Rattle.rules.specs.declared.schema.Schema.{Schema, False as SchemaFalse, Letter, Implies', Next', Always'}
 
 -- the formula of a schema: its letters are atoms
-abbrev pub schema_of : Schema → Formula
-schema_of SchemaFalse = falsum
-schema_of (Letter a) = atom a
-schema_of (Implies' p a q b) = implies (schema_of a) (schema_of b)
-schema_of (Next' p a) = next (schema_of a)
-schema_of (Always' p a) = always (schema_of a)
+abbrev pub formula_of : Schema → Formula
+formula_of SchemaFalse = falsum
+formula_of (Letter a) = atom a
+formula_of (Implies' p a q b) = implies (formula_of a) (formula_of b)
+formula_of (Next' p a) = next (formula_of a)
+formula_of (Always' p a) = always (formula_of a)
 
--- the schema of a rule of the program
+-- the rule schema that schemas of a conclusion and of premises make
 abbrev pub made_of : Schema → Option Schema → Option Schema → RuleSchema
-made_of conclusion first second = record { conclusion = schema_of conclusion; first = option_map schema_of first; second = option_map schema_of second }
+made_of conclusion first second = record { conclusion = formula_of conclusion; first = option_map formula_of first; second = option_map formula_of second }
 
 -- the letters of a formula are below n
 abbrev pub letters_below : ℕ → Formula → Bool

@@ -1,7 +1,7 @@
 // Questions by one rule: whether formulas are an instance of it.
 ghost use Rattle.std.specs.Prelude.{◌≡◌, option_map};
 ghost use Rattle.formulas.specs.Listed.{entries_of, formulas_of};
-ghost use Rattle.rules.specs.Matching.{schema_of, premise_matched_in, letters_in};
+ghost use Rattle.rules.specs.Matching.{formula_of, premise_matched_in, letters_in};
 ghost use Rattle.rules.specs.Rules.{rule_schema, instance_verdict};
 
 use crate::letters::{LETTERS, Letters};
@@ -44,7 +44,7 @@ fn premise_matched(
     number: Option<u16>,
     letters: Letters,
 ) -> Option<Letters>
-    ensures { result ≡ premise_matched_in (entries_of formulas.now) (option_map schema_of schema.entry) number letters }
+    ensures { result ≡ premise_matched_in (entries_of formulas.now) (option_map formula_of schema.entry) number letters }
 {
     match (schema, number) {
         (Some(schema), Some(number)) => matched(&schema, formulas, number, letters),

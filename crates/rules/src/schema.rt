@@ -2,7 +2,7 @@
 ghost use Rattle.std.specs.Prelude.{◌≡◌, true};
 ghost use Rattle.formulas.specs.Listed.{entries_of};
 ghost use Rattle.rules.specs.declared.letters.TheConstants.{LETTERS};
-ghost use Rattle.rules.specs.Matching.{schema_of, made_of, has_room, matched_in};
+ghost use Rattle.rules.specs.Matching.{formula_of, made_of, has_room, matched_in};
 
 use crate::letters::{LETTERS, Letters, with_letter};
 use formulas::{Entry, FormulaList};
@@ -48,7 +48,7 @@ pub(crate) fn matched(
     number: u16,
     letters: Letters,
 ) -> Option<Letters>
-    ensures { result ≡ matched_in (entries_of formulas.now) (schema_of schema.now) number letters }
+    ensures { result ≡ matched_in (entries_of formulas.now) (formula_of schema.now) number letters }
 {
     match (*schema, formulas.get(number)?) {
         (Schema::False, Entry::False) => Some(letters),

@@ -1,4 +1,4 @@
--- A plan, what its steps come to under a choice, and the rows that are made by them.
+-- A plan, what its steps give under a choice, and the rows that are made by them.
 use Rattle.std.specs.Prelude.{◌≡◌, ℕ, ◌+◌, ◌-◌, ◌^◌, ◌<◌, ◌≤◌, Bool, false, not, ◌||◌, List, [], length, Some, slice_index_or, bit_or}
 use Rattle.std.specs.List.{slice_get}
 use Rattle.formulas.specs.declared.entry.Entry.{Entry}

@@ -3,7 +3,7 @@ use crate::walk::{FORMULAS, Truths};
 use cases::SealedCase;
 use runs::RunSource;
 
-// A row has so many positions, and a word so many of them.
+// How many positions a row has, and how many of them a word has.
 const POSITIONS: u16 = 256;
 
 const WORD: usize = 64;

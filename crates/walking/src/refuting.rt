@@ -5,7 +5,7 @@ use cases::SealedCase;
 use refusals::Refusal;
 use runs::RunSource;
 
-// As many as a case holds, so that none is refused for want of room.
+// As many as a case holds, so that none is refused where there is no room.
 const TRIES: u16 = 64;
 
 // How many refutations were asked for, how many were answered otherwise than they were walked, and how many were walked

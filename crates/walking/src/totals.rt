@@ -1,4 +1,4 @@
-// What all that was compared came to.
+// The totals of all that was compared.
 use crate::chance::Chance;
 use crate::comparing::Tally;
 use crate::refuting::Outcomes;

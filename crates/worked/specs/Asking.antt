@@ -8,7 +8,7 @@ use Rattle.model.specs.Lines as lines
 use Rattle.model.specs.Judging as judging
 use Rattle.model.specs.History.{Stage, sealed_stage, Call, form, assume, truth, line, refute, History, after_call, after}
 
--- a number, a truth, or a refusal, behind the number that a caller is told for it
+-- a number, a truth, or a refusal, beside the number that a caller is told for it
 pub data Answer : Type 0 where
   number : ℕ → Answer
   value : Bool → Answer

@@ -35,7 +35,7 @@ impl<S: Stage> Case<S> {
         Ok(truth_at(scratch, formula, usize::from(position)))
     }
 
-    // Whether a formula can be judged at a position of a run, where there are so many scratch words.
+    // Whether a formula can be judged at a position of a run, where there are this many scratch words.
     #[tactic(auto, using(model::proofs::Checks::check_unknown, model::proofs::Checks::check_long, model::proofs::Checks::check_past, model::proofs::Checks::check_short, model::proofs::Checks::check_passes), unfolding(crate::specs::Model::modelled))]
     fn check<R: RunSource>(
         &self,

@@ -17,7 +17,8 @@ impl Case<Sealed> {
 
     /// Holds a line that a page admits, or by rule 0 an assumption, and answers its number, from 0.
     /// Refuses, in this order: `NotEntered` (4); `LineNotHeld` (6), of a place; `LinesFull` (7), where 512 are held;
-    /// `BeyondLimit` (9) and `NotAdmitted` (8), as the page says, or 8 by rule 0 of what is no assumption.
+    /// `BeyondLimit` (9) and `NotAdmitted` (8), as the page says, or 8 by rule 0 of what is no
+    /// assumption or has a place that is not empty.
     pub fn line<P: RulePage>(&mut self, page: &P, line: Line) -> Result<u16, Refusal>
         ensures answer { result ≡ (lines.line (sealed self.old) (P.meaning page.now) line).answer }
         ensures after { sealed self.new ≡ (lines.line (sealed self.old) (P.meaning page.now) line).after }

@@ -4,7 +4,7 @@ use Rattle.std.specs.List.{slice_get}
 use Rattle.logic.specs.Formula.{Formula, falsum, atom, implies, next, always}
 use Rattle.formulas.specs.declared.entry.Entry.{Entry}
 use Rattle.formulas.specs.Listed.{entries_of}
-use Rattle.rules.specs.Matching.{schema_of, matched_in}
+use Rattle.rules.specs.Matching.{formula_of, matched_in}
 use Rattle.rules.proofs.schema.+matched.Goals as goal
 
 none_matched : (es : List Entry) (A : Formula) (n : _) (ls : _) → slice_get es n ≡ None → matched_in es A n ls ≡ None
@@ -16,4 +16,4 @@ none_matched es (always A) n ls none = rw none refl
 
 pub returns-in_err-get : goal.returns-in_err-get
 returns-in_err-get t c =
-    c.from_residual.ensures ∙ sym (none_matched (entries_of c.args.formulas.now) (schema_of c.args.schema.now) c.args.number c.args.letters (sym c.get.ensures ∙ c.in_err-get.was))
+    c.from_residual.ensures ∙ sym (none_matched (entries_of c.args.formulas.now) (formula_of c.args.schema.now) c.args.number c.args.letters (sym c.get.ensures ∙ c.in_err-get.was))
